@@ -1,0 +1,5 @@
+pub mod Sum
+pub mod References
+pub mod Cache
+pub mod Firsts
+pub mod Sets

@@ -1,0 +1,5 @@
+// The direct-mapped cache: blocks, rows, references and sets of cache blocks.
+pub mod blocks;
+pub mod references;
+pub mod row;
+pub mod sets;
