@@ -1,0 +1,93 @@
+-- A run of references with preemptions anywhere between them, and what a preemption costs it. Definitions for the proofs alone.
+-- What the references are and where preemptions stand is left open; the cache may have any width and any place function.
+use mathlib.Core.Path.{_≡_}
+use mathlib.Core.Bool.{Bool, true, false, not, _&&_}
+use mathlib.Core.List.{List, [], _∷_}
+use Prim.Native.Nat.{ℕ, suc, _+_}
+use lib.Dec.{eqb}
+use Rattle.cache.specs.Sum.{bit, count}
+use Rattle.cache.specs.References.{nothing, Real, All}
+use Rattle.cache.specs.Cache.{Cache, held, emptyRow, hits, withReference, withReferences}
+use Rattle.cache.specs.Firsts.{firstsOver}
+use Rattle.cache.specs.Sets.{useful, used}
+use Rattle.model.specs.Numbers.{Count}
+
+pub data Event : Type 0 where
+  Ref : ℕ → Event
+  Preempt : List ℕ → Event
+
+-- the run's own references
+abbrev pub own : List Event → List ℕ
+own [] = []
+own (Ref m ∷ es) = m ∷ own es
+own (Preempt fs ∷ es) = own es
+
+-- references with no preemption between them, and then the events es
+abbrev pub refs : List ℕ → List Event → List Event
+refs [] es = es
+refs (m ∷ ms) es = Ref m ∷ refs ms es
+
+abbrev pub preemptions : List Event → ℕ
+preemptions [] = 0
+preemptions (Ref m ∷ es) = preemptions es
+preemptions (Preempt fs ∷ es) = suc (preemptions es)
+
+-- ---- misses: U is `misses k row (own es)`
+
+-- D: the run's own misses with its preemptions
+abbrev pub disturbed : Cache → List ℕ → List Event → ℕ
+disturbed k d [] = 0
+disturbed k d (Ref m ∷ es) = bit (not (hits k d m)) + disturbed k (withReference k d m) es
+disturbed k d (Preempt fs ∷ es) = disturbed k (withReferences k d fs) es
+
+-- the own references that hit in the undisturbed run from u and miss in the disturbed run from d
+abbrev pub lost : Cache → List ℕ → List ℕ → List Event → ℕ
+lost k d u [] = 0
+lost k d u (Ref m ∷ es) = bit (hits k u m && not (hits k d m)) + lost k (withReference k d m) (withReference k u m) es
+lost k d u (Preempt fs ∷ es) = lost k (withReferences k d fs) u es
+
+-- those that miss in the undisturbed run and hit in the disturbed one
+abbrev pub gained : Cache → List ℕ → List ℕ → List Event → ℕ
+gained k d u [] = 0
+gained k d u (Ref m ∷ es) = bit (hits k d m && not (hits k u m)) + gained k (withReference k d m) (withReference k u m) es
+gained k d u (Preempt fs ∷ es) = gained k (withReferences k d fs) u es
+
+-- ---- what a preemption costs
+
+-- `useful` at one cache block, of what the two rows hold there
+abbrev pub agree : ℕ → ℕ → Bool
+agree x y = eqb x y && not (eqb x nothing)
+
+-- the row f holds, at the cache block c, a memory block other than that of r
+abbrev pub replaces : List ℕ → List ℕ → ℕ → Bool
+replaces f r c = used f c && not (eqb (held f c) (held r c))
+
+-- the cache blocks where r and l agree and f holds something else
+abbrev pub usefulReplaced : Cache → List ℕ → List ℕ → List ℕ → ℕ
+usefulReplaced k r l f = count (k .width) (λ c. useful r l c && replaces f r c)
+
+-- a number for each preemption of a run, summed: v is given the row of the undisturbed run there, the first references to come,
+-- and the row that the preemption makes from the empty one; the undisturbed run begins with the row u
+abbrev pub total : Count → Cache → List ℕ → List Event → ℕ
+total v k u [] = 0
+total v k u (Ref m ∷ es) = total v k (withReference k u m) es
+total v k u (Preempt fs ∷ es) = v u (firstsOver k (own es) (emptyRow k)) (withReferences k (emptyRow k) fs) + total v k u es
+
+-- the cache blocks where d and u differ and u holds what comes next
+abbrev pub gap : Cache → List ℕ → List ℕ → List ℕ → ℕ
+gap k d u l = count (k .width) (λ c. useful u l c && not (eqb (held d c) (held u c)))
+
+-- ---- whose references they are
+
+-- each own reference is P, and each of the others is Q
+abbrev pub Parts : (ℕ → Type 0) → (ℕ → Type 0) → List Event → Type 0
+Parts P Q [] = Unit {0}
+Parts P Q (Ref m ∷ es) = P m × Parts P Q es
+Parts P Q (Preempt fs ∷ es) = All Q fs × Parts P Q es
+
+abbrev pub Clean : List Event → Type 0
+Clean es = Parts Real Real es
+
+-- own references are mine, and no other reference is
+abbrev pub Apart : (ℕ → Bool) → List Event → Type 0
+Apart mine es = Parts (λ m. (mine m ≡ true) × Real m) (λ f. (mine f ≡ false) × Real f) es

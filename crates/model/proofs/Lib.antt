@@ -1,0 +1,17 @@
+pub mod Membership
+pub mod Closure
+pub mod Universe
+pub mod Paths
+pub mod Exact
+pub mod Events
+pub mod Lost
+pub mod Disjoint
+pub mod Most
+pub mod RunEvents
+pub mod Bounds
+pub mod Demand
+pub mod Sorted
+pub mod Width
+pub mod Examples
+pub mod Neighbours
+pub mod OnPath

@@ -1,0 +1,167 @@
+-- Statements next to the main theorems that are false, each with the run or the row that refutes it.
+-- The tasks of file E keep the rules, and their runs are computed.
+use mathlib.Core.Path.{_≡_, refl}
+use mathlib.Core.Logic.{_≢_, _⊎_, inl, inr}
+use mathlib.Core.Bool.{Bool, true, _&&_, false≢true}
+use mathlib.Core.List.{List, [], _∷_}
+use Prim.Native.Nat.{ℕ, zero, suc, _+_, _≤_, _<_}
+use native.Mathlib.Omega.{arith}
+use lib.Dec.{eqb}
+use lib.ListN.{length, drop}
+use borrow.Author.Tests.{eqb-true}
+use Rattle.cache.specs.Sum.{count}
+use Rattle.cache.specs.References.{nothing, Real, All}
+use Rattle.cache.specs.Cache.{Cache, direct, held, firstReferences}
+use Rattle.cache.specs.Sets.{used, usefulUsed}
+use Rattle.model.specs.Lists.{mem, best}
+use Rattle.model.specs.Tasks.{Block, Task, end, PathFrom, stay, step, Complete, OnCompletePath, references, memoryBlocks, Share, task, Rules}
+use Rattle.model.specs.States.{Reaches, Lives}
+use Rattle.model.specs.Numbers.{Count}
+use Rattle.model.specs.Runs.{Preemption, Preempts, DisturbedRun, U, D}
+use Rattle.model.specs.Computed.{State, sameState, close, liveNext, rounds, rowsAt, reachingStates, most, pairNumber}
+use Rattle.model.specs.Demand.{pairSum}
+use Rattle.model.proofs.Membership.{or-cases, one-is}
+use Rattle.model.proofs.Sorted.{reaching-rows}
+use Rattle.model.proofs.Bounds.{bounded}
+use Rattle.model.proofs.Examples.{tasksE, byTask1, figure1}
+
+-- ---- the tasks of E keep the rules
+
+two-of : (m x y : ℕ) → mem eqb m (x ∷ y ∷ []) ≡ true → (m ≡ x) ⊎ (m ≡ y)
+two-of m x y e = elim (or-cases (eqb m x) (mem eqb m (y ∷ [])) e)
+    [ inl p ↦ inl (eqb-true m x p) | inr p ↦ inr (one-is m y p) ]
+
+apart-01 : Share (task tasksE 0) (task tasksE 1) → ⊥
+apart-01 (m, p, q) = elim (two-of m 0 1 p) [ inl e ↦ omega (arith, one-is m 2 q) | inr e ↦ omega (arith, one-is m 2 q) ]
+
+apartE : (i j : ℕ) → i ≢ j → Share (task tasksE i) (task tasksE j) → ⊥
+apartE zero zero n s = n refl
+apartE zero (suc zero) n s = apart-01 s
+apartE zero (suc (suc j)) n (m, p, q) = false≢true q
+apartE (suc zero) zero n (m, p, q) = apart-01 (m, q, p)
+apartE (suc zero) (suc zero) n s = n refl
+apartE (suc zero) (suc (suc j)) n (m, p, q) = false≢true q
+apartE (suc (suc i)) j n (m, p, q) = false≢true p
+
+realE : (j : ℕ) → All Real (memoryBlocks (task tasksE j))
+unfolding nothing
+realE zero = (λ e. omega arith, (λ e. omega arith, tt))
+realE (suc zero) = (λ e. omega arith, tt)
+realE (suc (suc j)) = tt
+
+completeE : (j b : ℕ) → j < 2 → b < length (task tasksE j) → OnCompletePath (task tasksE j) b
+completeE zero zero h l = (0 ∷ [], (refl, stay {b = 0} (omega arith)), refl)
+completeE zero (suc b) h l = absurd (omega arith)
+completeE (suc zero) zero h l = (0 ∷ [], (refl, stay {b = 0} (omega arith)), refl)
+completeE (suc zero) (suc b) h l = absurd (omega arith)
+completeE (suc (suc j)) b h l = absurd (omega arith)
+
+someE : (j : ℕ) → j < 2 → 0 < length (task tasksE j)
+someE zero h = omega arith
+someE (suc zero) h = omega arith
+someE (suc (suc j)) h = absurd (omega arith)
+
+pub rulesE : Rules tasksE
+rulesE = record { some = someE; complete = completeE; apart = apartE; real = realE }
+
+-- ---- D <= U
+
+pub loop : (p : List ℕ) → PathFrom (task tasksE 0) 0 p 0 → PathFrom (task tasksE 0) 0 (0 ∷ p) 0
+loop p w = step refl w
+
+pub stops0 : PathFrom (task tasksE 0) 0 [] 0
+stops0 = stay {b = 0} (omega arith)
+
+pub by1 : (point : ℕ) (path : List ℕ) → point < length path → Preempts tasksE 0 path (byTask1 point)
+by1 point path h = record { inPath = h; there = omega arith; other = λ e. omega arith; complete = (refl, stay {b = 0} (omega arith)) }
+
+abbrev pub onceE : DisturbedRun tasksE
+onceE = record {
+  p = 0;
+  path = 0 ∷ 0 ∷ [];
+  preemptions = byTask1 0 ∷ [];
+  there = omega arith;
+  complete = (refl, loop [] stops0);
+  each = (by1 0 (0 ∷ 0 ∷ []) (omega arith), tt);
+  rising = tt;
+}
+
+once-counts : (U (direct 2) onceE ≡ 2) × (D (direct 2) onceE ≡ 3)
+unfolding nothing
+once-counts = (refl, refl)
+
+pub not-D-le-U : ((r : DisturbedRun tasksE) → D (direct 2) r ≤ U (direct 2) r) → ⊥
+not-D-le-U h = omega (arith, h onceE, once-counts)
+
+-- ---- the sum with one preemption left out
+
+abbrev pub twiceE : DisturbedRun tasksE
+twiceE = record {
+  p = 0;
+  path = 0 ∷ 0 ∷ 0 ∷ [];
+  preemptions = byTask1 0 ∷ byTask1 1 ∷ [];
+  there = omega arith;
+  complete = (refl, loop (0 ∷ []) (loop [] stops0));
+  each = (by1 0 (0 ∷ 0 ∷ 0 ∷ []) (omega arith), (by1 1 (0 ∷ 0 ∷ 0 ∷ []) (omega arith), tt));
+  rising = (omega arith, tt);
+}
+
+twice-counts : (U (direct 2) twiceE ≡ 2) × (D (direct 2) twiceE ≡ 4) × (pairSum 2 tasksE 0 (drop 1 (twiceE .preemptions)) ≡ 1)
+unfolding nothing
+twice-counts = (refl, refl, refl)
+
+pub not-one-left-out : ((r : DisturbedRun tasksE) → D (direct 2) r ≤ U (direct 2) r + pairSum 2 tasksE (r .p) (drop 1 (r .preemptions))) → ⊥
+not-one-left-out h = omega (arith, h twiceE, twice-counts)
+
+-- ---- live rows without the end block's stopping row
+
+-- ways on of at least one block only
+abbrev pub LivesFurther : Cache → Task → ℕ → List ℕ → Type 0
+LivesFurther k t b row = (c : ℕ) × (p : List ℕ) × PathFrom t b (c ∷ p) (end t) × (row ≡ firstReferences k (references t (c ∷ p)))
+
+-- then the references to come after a position of a complete path need not be a live state
+pub not-live-further : ((t : Task) (b : ℕ) (p : List ℕ) → PathFrom t b p (end t) → LivesFurther (direct 2) t b (firstReferences (direct 2) (references t p))) → ⊥
+not-live-further h = go (h (task tasksE 1) 0 [] (stay {b = 0} (omega arith)))
+  where
+    no-step : {c e : ℕ} {p : List ℕ} → PathFrom (task tasksE 1) 0 (c ∷ p) e → ⊥
+    no-step (step m w) = false≢true m
+
+    go : LivesFurther (direct 2) (task tasksE 1) 0 (firstReferences (direct 2) []) → ⊥
+    go (c, p, w, e) = no-step w
+
+-- the closure without the row of nothings to start from, and its pair number
+abbrev pub mostWithoutStop : Count → Cache → Task → Task → ℕ
+mostWithoutStop v k i j =
+    best (λ (x : State). best (λ (l : List ℕ). best (λ (f : List ℕ). v (x .1) l f) (rowsAt (end j) (reachingStates k j)))
+    (rowsAt (x .0) (close sameState (liveNext k i) (rounds k i) []))) (reachingStates k i)
+
+without-stop : mostWithoutStop (usefulUsed (direct 2)) (direct 2) (task tasksE 0) (task tasksE 1) ≡ 0
+unfolding nothing
+without-stop = refl
+
+pub not-without-stop : D (direct 2) onceE ≤ U (direct 2) onceE + mostWithoutStop (usefulUsed (direct 2)) (direct 2) (task tasksE 0) (task tasksE 1) → ⊥
+not-without-stop h = omega (arith, h, once-counts, without-stop)
+
+-- ---- two nothings counted as useful
+
+abbrev pub usedOrNothing : Cache → Count
+usedOrNothing k r l f = count (k .width) (λ c. eqb (held r c) (held l c) && used f c)
+
+two-nothings : (most (usedOrNothing (direct 2)) (direct 2) (task tasksE 1) (task tasksE 0) ≡ 1) × (pairNumber 2 (task tasksE 1) (task tasksE 0) ≡ 0)
+unfolding nothing
+two-nothings = (refl, refl)
+
+-- then no run of task 1 with exactly one preemption, by task 0, reaches the number
+pub not-two-nothings : (r : DisturbedRun tasksE) (one : Preemption) → r .p ≡ 1 → r .preemptions ≡ one ∷ [] → one .by ≡ 0
+    → D (direct 2) r ≡ U (direct 2) r + most (usedOrNothing (direct 2)) (direct 2) (task tasksE 1) (task tasksE 0) → ⊥
+not-two-nothings r one p q b e = omega (arith, e, two-nothings, bounded 2 tasksE rulesE r .1, sum-none (r .p) (r .preemptions) one p q b)
+  where
+    sum-none : (i : ℕ) (xs : List Preemption) (one : Preemption) → i ≡ 1 → xs ≡ one ∷ [] → one .by ≡ 0 → pairSum 2 tasksE i xs ≡ 0
+    sum-none i xs one p q b = rw (p, q, b) (omega (arith, two-nothings .1))
+
+-- ---- a block started from its own references alone
+
+-- document 002's first iteration makes a row of block 1 of figure 1 that no path makes
+pub not-own-references : Reaches (direct 4) figure1 1 (nothing ∷ 1 ∷ 2 ∷ 3 ∷ []) → ⊥
+unfolding nothing
+not-own-references h = false≢true (reaching-rows (direct 4) figure1 1 (65535 ∷ 1 ∷ 2 ∷ 3 ∷ []) .1 h)

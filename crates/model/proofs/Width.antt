@@ -1,0 +1,165 @@
+-- Rows may be wider than the cache has blocks: the states are the same rows with nothings after them, and the pair number is the same.
+-- The idea: a reference goes to a place below n, so the places from n on keep their nothing; two nothings are never useful.
+use mathlib.Core.Path.{_≡_, refl, sym, ap, _∙_}
+use mathlib.Core.Logic.{_⊎_, inl, inr}
+use mathlib.Core.Bool.{Bool, _&&_}
+use mathlib.Core.List.{List, [], _∷_, _++_}
+use Prim.Native.Nat.{ℕ, zero, suc, _+_, _-_, _≤_, _<_, _%_}
+use native.Mathlib.Nat.{mod-lt, add-suc, add-zero}
+use native.Mathlib.Omega.{arith}
+use lib.ListN.{length, replicate, getD-replicate, replicate-append-replicate, List·getD-append}
+use lib.Seq.{set-append-left, getD-append-add}
+use borrow.Author.Tests.{eq-eqb}
+use Rattle.cache.specs.Sum.{bit, sum}
+use Rattle.cache.specs.References.{nothing}
+use Rattle.cache.specs.Cache.{Cache, wide, direct, held, emptyRow, withReference, withReferences, firstReferences}
+use Rattle.cache.specs.Firsts.{firstsOver}
+use Rattle.cache.specs.Sets.{useful, used, usefulUsed}
+use Rattle.cache.proofs.Sums.{sum-cong}
+use Rattle.cache.proofs.Rows.{length-emptyRow, length-withReference, length-withReferences, length-firstsOver, firstReferences-fold}
+use Rattle.model.specs.Tasks.{Task, end, PathFrom, references}
+use Rattle.model.specs.States.{Reaches, Lives}
+use Rattle.model.specs.Numbers.{Rows, counted, Most}
+use Rattle.model.specs.Computed.{most, pairNumber}
+use Rattle.model.proofs.Most.{most-is, most-unique}
+
+module _ (n : ℕ) (pos : 0 < n) (d : ℕ) where
+  abbrev narrow : Cache
+  narrow = direct n
+
+  abbrev broad : Cache
+  broad = wide (n + d) n
+
+  -- a row of n places with d nothings after it
+  abbrev pub padded : List ℕ → List ℕ
+  padded row = row ++ replicate d nothing
+
+  -- ---- rows
+
+  padded-empty : emptyRow broad ≡ padded (emptyRow narrow)
+  padded-empty = sym (replicate-append-replicate n d nothing)
+
+  padded-reference : (row : List ℕ) (m : ℕ) → length row ≡ n → withReference broad (padded row) m ≡ padded (withReference narrow row m)
+  padded-reference row m e = set-append-left row (replicate d nothing) (m % n) m (rw e (mod-lt m pos))
+
+  padded-references : (ms row : List ℕ) → length row ≡ n → withReferences broad (padded row) ms ≡ padded (withReferences narrow row ms)
+  padded-references [] row e = refl
+  padded-references (m ∷ ms) row e =
+      ap (λ r. withReferences broad r ms) (padded-reference row m e) ∙ padded-references ms (withReference narrow row m) (length-withReference narrow row m e)
+
+  padded-firsts : (ms : List ℕ) → firstsOver broad ms (emptyRow broad) ≡ padded (firstsOver narrow ms (emptyRow narrow))
+  padded-firsts [] = padded-empty
+  padded-firsts (m ∷ ms) =
+      ap (λ r. withReference broad r m) (padded-firsts ms)
+      ∙ padded-reference (firstsOver narrow ms (emptyRow narrow)) m (length-firstsOver narrow ms (emptyRow narrow) (length-emptyRow narrow))
+
+  run-row : (ms : List ℕ) → withReferences broad (emptyRow broad) ms ≡ padded (withReferences narrow (emptyRow narrow) ms)
+  run-row ms = ap (λ r. withReferences broad r ms) padded-empty ∙ padded-references ms (emptyRow narrow) (length-emptyRow narrow)
+
+  first-row : (ms : List ℕ) → firstReferences broad ms ≡ padded (firstReferences narrow ms)
+  first-row ms = firstReferences-fold broad ms ∙ padded-firsts ms ∙ ap padded (sym (firstReferences-fold narrow ms))
+
+  -- ---- states
+
+  -- a row of the narrow cache behind a row of the broad one
+  pub record Behind (P : List ℕ → Type 0) (row : List ℕ) : Type 0 where
+    pub inner : List ℕ
+    pub long : length inner ≡ n
+    pub holds : P inner
+    pub same : row ≡ padded inner
+
+  pub reaches-narrow : (t : Task) (b : ℕ) (row : List ℕ) → Reaches broad t b row → Behind (Reaches narrow t b) row
+  reaches-narrow t b row (p, w, e) = record {
+    inner = withReferences narrow (emptyRow narrow) (references t (0 ∷ p));
+    long = length-withReferences narrow (references t (0 ∷ p)) (emptyRow narrow) (length-emptyRow narrow);
+    holds = (p, w, refl);
+    same = e ∙ run-row (references t (0 ∷ p));
+  }
+
+  pub lives-narrow : (t : Task) (b : ℕ) (row : List ℕ) → Lives broad t b row → Behind (Lives narrow t b) row
+  lives-narrow t b row (p, w, e) = record {
+    inner = firstReferences narrow (references t p);
+    long = ap length (firstReferences-fold narrow (references t p)) ∙ length-firstsOver narrow (references t p) (emptyRow narrow) (length-emptyRow narrow);
+    holds = (p, w, refl);
+    same = e ∙ first-row (references t p);
+  }
+
+  pub reaches-broad : (t : Task) (b : ℕ) (row : List ℕ) → Reaches narrow t b row → Reaches broad t b (padded row)
+  reaches-broad t b row (p, w, e) = (p, w, ap padded e ∙ sym (run-row (references t (0 ∷ p))))
+
+  pub lives-broad : (t : Task) (b : ℕ) (row : List ℕ) → Lives narrow t b row → Lives broad t b (padded row)
+  lives-broad t b row (p, w, e) = (p, w, ap padded e ∙ sym (first-row (references t p)))
+
+  -- ---- counts
+
+  held-inner : (row : List ℕ) (c : ℕ) → length row ≡ n → c < n → held (padded row) c ≡ held row c
+  held-inner row c e h = List·getD-append row (replicate d nothing) nothing c (rw e h)
+
+  held-outer : (row : List ℕ) (c : ℕ) → length row ≡ n → c < d → held (padded row) (n + c) ≡ nothing
+  held-outer row c e h = rw (← e) (getD-append-add row (replicate d nothing) c nothing ∙ getD-replicate d c nothing nothing h)
+
+  sum-outer : (m : ℕ) (f : ℕ → ℕ) → ((c : ℕ) → c < m → f (n + c) ≡ 0) → sum (n + m) f ≡ sum n f
+  sum-outer zero f h = ap (λ x. sum x f) (add-zero n)
+  sum-outer (suc m) f h = ap (λ x. sum x f) (add-suc n m) ∙ omega (arith, sum-outer m f (λ c l. h c (omega arith)), h m (omega arith))
+
+  padded-count : (r l f : List ℕ) → length r ≡ n → length l ≡ n → length f ≡ n → usefulUsed broad (padded r) (padded l) (padded f) ≡ usefulUsed narrow r l f
+  padded-count r l f er el ef =
+      sum-outer d (λ c. bit (useful (padded r) (padded l) c && used (padded f) c))
+      (λ c h. rw (held-outer r c er h, held-outer l c el h, eq-eqb nothing nothing refl))
+      ∙ sum-cong n _ _ (λ c h. rw (held-inner r c er h, held-inner l c el h, held-inner f c ef h))
+
+  -- ---- the pair number
+
+  to-narrow : (i j : Task) (x : Rows broad i j) → (y : Rows narrow i j) × (counted (usefulUsed broad) x ≡ counted (usefulUsed narrow) y)
+  to-narrow i j x =
+      let r = reaches-narrow i (x .at) (x .reaching) (x .reaches) in
+      let l = lives-narrow i (x .at) (x .live) (x .lives) in
+      let f = reaches-narrow j (end j) (x .ending) (x .ends) in (
+        record { at = x .at; reaching = r .inner; live = l .inner; ending = f .inner; reaches = r .holds; lives = l .holds; ends = f .holds },
+        same-count (x .reaching) (x .live) (x .ending) (r .inner) (l .inner) (f .inner) (r .same) (l .same) (f .same) (r .long) (l .long) (f .long),
+      )
+    where
+      same-count : (r l f r' l' f' : List ℕ) → r ≡ padded r' → l ≡ padded l' → f ≡ padded f' → length r' ≡ n → length l' ≡ n → length f' ≡ n
+          → usefulUsed broad r l f ≡ usefulUsed narrow r' l' f'
+      same-count r l f r' l' f' er el ef lr ll lf = rw (er, el, ef) (padded-count r' l' f' lr ll lf)
+
+  row-long : (t : Task) (b : ℕ) (row : List ℕ) → Reaches narrow t b row → length row ≡ n
+  row-long t b row (p, w, e) = ap length e ∙ length-withReferences narrow (references t (0 ∷ p)) (emptyRow narrow) (length-emptyRow narrow)
+
+  live-long : (t : Task) (b : ℕ) (row : List ℕ) → Lives narrow t b row → length row ≡ n
+  live-long t b row (p, w, e) =
+      ap length (e ∙ firstReferences-fold narrow (references t p)) ∙ length-firstsOver narrow (references t p) (emptyRow narrow) (length-emptyRow narrow)
+
+  to-broad : (i j : Task) (x : Rows narrow i j) → (y : Rows broad i j) × (counted (usefulUsed broad) y ≡ counted (usefulUsed narrow) x)
+  to-broad i j x = (
+    record {
+      at = x .at;
+      reaching = padded (x .reaching);
+      live = padded (x .live);
+      ending = padded (x .ending);
+      reaches = reaches-broad i (x .at) (x .reaching) (x .reaches);
+      lives = lives-broad i (x .at) (x .live) (x .lives);
+      ends = reaches-broad j (end j) (x .ending) (x .ends);
+    },
+    padded-count (x .reaching) (x .live) (x .ending) (row-long i (x .at) (x .reaching) (x .reaches)) (live-long i (x .at) (x .live) (x .lives)) (row-long j (end j) (x .ending) (x .ends)),
+  )
+
+  broad-most : (i j : Task) → Most (usefulUsed broad) broad i j (pairNumber n i j)
+  broad-most i j = record {
+    bound = λ x. let (y, e) = to-narrow i j x in omega (arith, most-is (usefulUsed narrow) narrow i j .bound y);
+    met = go (most-is (usefulUsed narrow) narrow i j .met);
+  }
+    where
+      go : (pairNumber n i j ≡ 0) ⊎ ((x : Rows narrow i j) × (counted (usefulUsed narrow) x ≡ pairNumber n i j))
+          → (pairNumber n i j ≡ 0) ⊎ ((y : Rows broad i j) × (counted (usefulUsed broad) y ≡ pairNumber n i j))
+      go (inl z) = inl z
+      go (inr (x, e)) = let (y, q) = to-broad i j x in inr (y, q ∙ e)
+
+  broad-number : (i j : Task) → most (usefulUsed broad) broad i j ≡ pairNumber n i j
+  broad-number i j = most-unique (usefulUsed broad) broad i j (most (usefulUsed broad) broad i j) (pairNumber n i j) (most-is (usefulUsed broad) broad i j) (broad-most i j)
+
+-- the pair number by rows of any width: it depends on n and the two tasks alone
+pub pair-width : (n w : ℕ) → 0 < n → n ≤ w → (i j : Task) → most (usefulUsed (wide w n)) (wide w n) i j ≡ pairNumber n i j
+pair-width n w pos h i j =
+    let e : w ≡ n + (w - n) = omega arith in
+    rw e (broad-number n pos (w - n) i j)

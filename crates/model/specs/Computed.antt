@@ -1,0 +1,120 @@
+-- The reaching and live states and the pair number as functions that compute.
+-- proofs/Exact shows that they are those of States and Numbers.
+use mathlib.Core.Bool.{Bool, true, false, _&&_, cond}
+use mathlib.Core.List.{List, [], _∷_, _++_, map}
+use Prim.Native.Nat.{ℕ, zero, suc, _*_, _^_}
+use lib.Dec.{eqb, ltb}
+use lib.ListN.{length}
+use Rattle.cache.specs.Cache.{Cache, emptyRow, withReferences, direct}
+use Rattle.cache.specs.Firsts.{firstsOver}
+use Rattle.cache.specs.Sets.{usefulUsed}
+use Rattle.model.specs.Lists.{mem, best}
+use Rattle.model.specs.Tasks.{Block, Task, block, end, memoryBlocks}
+use Rattle.model.specs.Numbers.{Count}
+use Rattle.model.specs.Order.{before}
+
+-- ---- the closure of a list under a step
+
+module _ {A : Type 0} (eq : A → A → Bool) where
+  abbrev pub addIf : Bool → A → List A → List A
+  addIf true x l = l
+  addIf false x l = x ∷ l
+
+  -- the list with the elements of the first that it lacks
+  abbrev pub addAll : List A → List A → List A
+  addAll [] l = l
+  addAll (x ∷ xs) l = addAll xs (addIf (mem eq x l) x l)
+
+  abbrev pub sub : List A → List A → Bool
+  sub [] ys = true
+  sub (x ∷ xs) ys = mem eq x ys && sub xs ys
+
+abbrev pub nexts : {A : Type 0} → (A → List A) → List A → List A
+nexts next [] = []
+nexts next (x ∷ xs) = next x ++ nexts next xs
+
+-- the list with the next elements of its elements added, at most k times over
+abbrev pub close : {A : Type 0} → (A → A → Bool) → (A → List A) → ℕ → List A → List A
+close eq next zero l = l
+close eq next (suc k) l = elim (sub eq (nexts next l) l) [ true ↦ l | false ↦ close eq next k (addAll eq (nexts next l) l) ]
+
+-- ---- states: a block and a row
+
+abbrev pub State : Type 0
+State = ℕ × List ℕ
+
+abbrev pub sameList : List ℕ → List ℕ → Bool
+sameList [] [] = true
+sameList [] (y ∷ ys) = false
+sameList (x ∷ xs) [] = false
+sameList (x ∷ xs) (y ∷ ys) = eqb x y && sameList xs ys
+
+abbrev pub sameState : State → State → Bool
+sameState x y = eqb (x .0) (y .0) && sameList (x .1) (y .1)
+
+-- the numbers of a list that are blocks of the task
+abbrev pub inside : Task → List ℕ → List ℕ
+inside t [] = []
+inside t (b ∷ bs) = cond (ltb b (length t)) (b ∷ inside t bs) (inside t bs)
+
+-- reaching states, from the entry onwards
+abbrev pub reachNext : Cache → Task → State → List State
+reachNext k t x = map (λ (s : ℕ). (s, withReferences k (x .1) (block t s .references))) (inside t (block t (x .0) .successors))
+
+abbrev pub reachStart : Cache → Task → List State
+reachStart k t = map (λ (s : ℕ). (s, withReferences k (emptyRow k) (block t s .references))) (inside t (0 ∷ []))
+
+-- live states, from the end backwards
+abbrev pub predecessorsFrom : ℕ → Task → ℕ → List ℕ
+predecessorsFrom i [] b = []
+predecessorsFrom i (x ∷ xs) b = cond (mem eqb b (x .successors)) (i ∷ predecessorsFrom (suc i) xs b) (predecessorsFrom (suc i) xs b)
+
+abbrev pub liveNext : Cache → Task → State → List State
+liveNext k t x = map (λ (p : ℕ). (p, firstsOver k (block t (x .0) .references) (x .1))) (predecessorsFrom 0 t (x .0))
+
+abbrev pub liveStart : Cache → Task → List State
+liveStart k t = map (λ (s : ℕ). (s, emptyRow k)) (inside t (end t ∷ []))
+
+-- as many rounds as there are states: blocks times rows over the task's memory blocks and nothing
+abbrev pub rounds : Cache → Task → ℕ
+rounds k t = length t * suc (length (memoryBlocks t)) ^ k .width
+
+abbrev pub reachingStates : Cache → Task → List State
+reachingStates k t = close sameState (reachNext k t) (rounds k t) (reachStart k t)
+
+abbrev pub liveStates : Cache → Task → List State
+liveStates k t = close sameState (liveNext k t) (rounds k t) (liveStart k t)
+
+-- ---- the rows of one block, in dictionary order
+
+abbrev pub rowsAt : ℕ → List State → List (List ℕ)
+rowsAt b [] = []
+rowsAt b (x ∷ xs) = cond (eqb (x .0) b) (x .1 ∷ rowsAt b xs) (rowsAt b xs)
+
+-- a row put in its place among rising rows, unless it is there already
+abbrev pub insertRow : List ℕ → List (List ℕ) → List (List ℕ)
+insertRow r [] = r ∷ []
+insertRow r (x ∷ xs) = cond (before r x) (r ∷ x ∷ xs) (cond (before x r) (x ∷ insertRow r xs) (x ∷ xs))
+
+abbrev pub sorted : List (List ℕ) → List (List ℕ)
+sorted [] = []
+sorted (x ∷ xs) = insertRow x (sorted xs)
+
+-- the reaching states and the live states of the block b
+abbrev pub reaching : Cache → Task → ℕ → List (List ℕ)
+reaching k t b = sorted (rowsAt b (reachingStates k t))
+
+abbrev pub living : Cache → Task → ℕ → List (List ℕ)
+living k t b = sorted (rowsAt b (liveStates k t))
+
+-- ---- the pair number
+
+-- the most that v counts over a reaching row and a live row of one block of i, and a row that j ends with
+abbrev pub most : Count → Cache → Task → Task → ℕ
+most v k i j =
+    best (λ (x : State). best (λ (l : List ℕ). best (λ (f : List ℕ). v (x .1) l f) (rowsAt (end j) (reachingStates k j))) (rowsAt (x .0) (liveStates k i)))
+    (reachingStates k i)
+
+-- the pair number of task i preempted by task j, in a cache of n cache blocks
+abbrev pub pairNumber : ℕ → Task → Task → ℕ
+pairNumber n i j = most (usefulUsed (direct n)) (direct n) i j

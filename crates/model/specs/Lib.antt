@@ -1,0 +1,9 @@
+pub mod Lists
+pub mod Tasks
+pub mod States
+pub mod Numbers
+pub mod Runs
+pub mod Demand
+pub mod Order
+pub mod Computed
+pub mod OnPath

@@ -1,0 +1,87 @@
+-- Document 01, "Paths and cache": disturbed runs, U and D. Definitions only.
+use mathlib.Core.Logic.{_≢_}
+use mathlib.Core.Bool.{not, cond}
+use mathlib.Core.List.{List, [], _∷_}
+use Prim.Native.Nat.{ℕ, suc, _+_, _≤_, _<_}
+use lib.Dec.{eqb}
+use lib.ListN.{length}
+use Rattle.cache.specs.Sum.{bit}
+use Rattle.cache.specs.Cache.{Cache, emptyRow, hits, withReference, withReferences}
+use Rattle.model.specs.Lists.{Each}
+use Rattle.model.specs.Tasks.{Block, Task, block, Complete, references, task}
+
+-- "A preemption is a point (a position in the path, from 0), a task other than p and a complete path of that task."
+pub record Preemption : Type 0 where
+  pub point : ℕ
+  pub by : ℕ
+  pub path : List ℕ
+
+-- a preemption of the path of the task p, in the file of the tasks ts
+pub record Preempts (ts : List Task) (p : ℕ) (path : List ℕ) (x : Preemption) : Type 0 where
+  pub inPath : x .point < length path
+  pub there : x .by < length ts
+  pub other : x .by ≢ p
+  pub complete : Complete (task ts (x .by)) (x .path)
+
+-- "Points .. never fall; equal ones are allowed."
+abbrev pub NeverFall : List Preemption → Type 0
+NeverFall [] = Unit {0}
+NeverFall (x ∷ []) = Unit {0}
+NeverFall (x ∷ y ∷ xs) = (x .point ≤ y .point) × NeverFall (y ∷ xs)
+
+-- "A disturbed run is, in one accepted file, a task p, a complete path of p and a list of preemptions, which may be empty.
+-- .. Points lie in the path and never fall"
+pub record DisturbedRun (ts : List Task) : Type 0 where
+  pub p : ℕ
+  pub path : List ℕ
+  pub preemptions : List Preemption
+  pub there : p < length ts
+  pub complete : Complete (task ts p) path
+  pub each : Each (Preempts ts p path) preemptions
+  pub rising : NeverFall preemptions
+
+-- "The run keeps one row and one count,"
+pub record Kept : Type 0 where
+  pub row : List ℕ
+  pub count : ℕ
+
+-- "at first the empty cache and 0."
+abbrev pub atFirst : Cache → Kept
+atFirst k = record { row = emptyRow k; count = 0 }
+
+-- "it makes the references of that block in order and adds 1 for each miss,"
+abbrev pub ownReferences : Cache → Kept → List ℕ → Kept
+ownReferences k s [] = s
+ownReferences k s (m ∷ ms) = ownReferences k (record { row = withReference k (s .row) m; count = s .count + bit (not (hits k (s .row) m)) }) ms
+
+-- "A preemption makes all references of its path in order on the row as it stands and adds nothing."
+abbrev pub preempted : Cache → List Task → Kept → Preemption → Kept
+preempted k ts s x = record { row = withReferences k (s .row) (references (task ts (x .by)) (x .path)); count = s .count }
+
+-- "Each step gets the row that the last one left"
+abbrev pub preemptedBy : Cache → List Task → Kept → List Preemption → Kept
+preemptedBy k ts s [] = s
+preemptedBy k ts s (x ∷ xs) = preemptedBy k ts (preempted k ts s x) xs
+
+-- "the preemptions with this point in list order"
+abbrev pub withPoint : ℕ → List Preemption → List Preemption
+withPoint i [] = []
+withPoint i (x ∷ xs) = cond (eqb (x .point) i) (x ∷ withPoint i xs) (withPoint i xs)
+
+-- "It takes the positions in rising order. At each it makes the references of that block .., then takes the preemptions with this
+-- point": the path's blocks from the position i on
+abbrev pub positions : Cache → List Task → Task → List Preemption → ℕ → Kept → List ℕ → Kept
+positions k ts t xs i s [] = s
+positions k ts t xs i s (b ∷ p) = positions k ts t xs (suc i) (preemptedBy k ts (ownReferences k s (block t b .references)) (withPoint i xs)) p
+
+-- the count at the end of the path of a task, with a list of preemptions
+abbrev pub countAtEnd : Cache → List Task → Task → List ℕ → List Preemption → ℕ
+countAtEnd k ts t path xs = positions k ts t xs 0 (atFirst k) path .count
+
+-- "D is the count at the end;"
+abbrev pub D : Cache → {ts : List Task} → DisturbedRun ts → ℕ
+D k {ts} r = countAtEnd k ts (task ts (r .p)) (r .path) (r .preemptions)
+
+-- "U is the count at the end of the same path with the empty list."
+abbrev pub U : Cache → {ts : List Task} → DisturbedRun ts → ℕ
+U k {ts} r = countAtEnd k ts (task ts (r .p)) (r .path) []

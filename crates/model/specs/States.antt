@@ -1,0 +1,15 @@
+-- Document 01, "Paths and cache": reaching and live states, over paths. Definitions only.
+use mathlib.Core.Path.{_≡_}
+use mathlib.Core.List.{List, _∷_}
+use Prim.Native.Nat.{ℕ}
+use Rattle.cache.specs.Cache.{Cache, emptyRow, withReferences, firstReferences}
+use Rattle.model.specs.Tasks.{Task, PathFrom, end, references}
+
+-- "Reaching states of a block: rows after all its references, over every path from block 0 to it."
+abbrev pub Reaches : Cache → Task → ℕ → List ℕ → Type 0
+Reaches k t b row = (p : List ℕ) × PathFrom t 0 p b × (row ≡ withReferences k (emptyRow k) (references t (0 ∷ p)))
+
+-- "Live states of a block: for each cache block, the first reference to it after the block's end, over every way on to the end of
+-- a complete path. At the end block stopping is one way on and gives the row of nothings.": there the way on p may be empty
+abbrev pub Lives : Cache → Task → ℕ → List ℕ → Type 0
+Lives k t b row = (p : List ℕ) × PathFrom t b p (end t) × (row ≡ firstReferences k (references t p))
