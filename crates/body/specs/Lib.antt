@@ -1,0 +1,6 @@
+pub mod Layout
+pub mod Decode
+pub mod Walk
+pub mod Jumps
+pub mod Parts
+pub mod BlockEnd
