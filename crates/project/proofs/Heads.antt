@@ -1,0 +1,68 @@
+-- The mark's test as it is computed, and what checks 2 to 6 answer where a test of theirs holds.
+-- The idea: a test that holds just where two lists are equal is the computed one; each check stops the chain where its test holds.
+use mathlib.Core.Path.{_≡_, refl, sym, ap, _∙_}
+use mathlib.Core.Bool.{Bool, true, false, not, _||_}
+use mathlib.Core.List.{List}
+use Prim.Native.Nat.{ℕ, _≤_, _<_}
+use lib.Dec.{eqb, ltb}
+use lib.ListN.{getD}
+use borrow.Author.Tests.{lt-ltb, le-ltb}
+use Rattle.model.specs.Computed.{sameList}
+use Rattle.model.proofs.Membership.{sameList-self, sameList-true}
+use Rattle.project.specs.declared.answers.Check.the-variants.{Passed}
+use Rattle.project.specs.declared.answers.Check.the-variants.{Refused as Failed}
+use Rattle.project.specs.File.{cacheBlocks, taskCount}
+use Rattle.project.specs.Reading.{test2, test3, test4, test5, test6, headCheck}
+
+pub same-test : (r : Bool) (a b : List ℕ) → (r ≡ true → a ≡ b) → (a ≡ b → r ≡ true) → r ≡ sameList a b
+same-test true a b f g = sym (ap (sameList a) (sym (f refl)) ∙ sameList-self a)
+same-test false a b f g = go (sameList a b) (sameList-true a b)
+  where
+    go : (t : Bool) → (t ≡ true → a ≡ b) → false ≡ t
+    go true h = g (h refl)
+    go false h = refl
+
+-- a number below its lower bound, and one that is not
+pub below : (a b : ℕ) (t : Bool) → a < b → (ltb a b || t) ≡ true
+below a b t h = rw (lt-ltb a b h)
+
+pub not-below : (a b : ℕ) {t r : Bool} → b ≤ a → t ≡ r → (ltb a b || t) ≡ r
+not-below a b h e = rw (le-ltb a b h) e
+
+pub or-second : (a : Bool) {b r : Bool} → a ≡ false → b ≡ r → (a || b) ≡ r
+or-second a h e = rw h e
+
+-- ---- the answer where the first test to hold is that of check 2, 3, 4, 5 or 6, and where none holds
+
+module _ (s : List ℕ) where
+  -- the tests up to that of check 3, 4 and 5 do not hold
+  abbrev pub Past3 : Type 0
+  Past3 = (test2 s ≡ false) × (test3 s ≡ false)
+
+  abbrev pub Past4 : Type 0
+  Past4 = Past3 × (test4 s ≡ false)
+
+  abbrev pub Past5 : Type 0
+  Past5 = Past4 × (test5 (cacheBlocks s) ≡ false)
+
+  -- the test of check 6
+  abbrev pub test67 : Bool
+  test67 = test6 (taskCount s) || not (eqb (getD s 7 0) 0)
+
+  pub at2 : test2 s ≡ true → headCheck s ≡ Failed 2 255
+  at2 e2 = rw e2
+
+  pub at3 : test2 s ≡ false → test3 s ≡ true → headCheck s ≡ Failed 3 255
+  at3 e2 e3 = rw (e2, e3)
+
+  pub at4 : Past3 → test4 s ≡ true → headCheck s ≡ Failed 4 255
+  at4 (e2, e3) e4 = rw (e2, e3, e4)
+
+  pub at5 : Past4 → test5 (cacheBlocks s) ≡ true → headCheck s ≡ Failed 5 255
+  at5 ((e2, e3), e4) e5 = rw (e2, e3, e4, e5)
+
+  pub at6 : Past5 → test67 ≡ true → headCheck s ≡ Failed 6 255
+  at6 (((e2, e3), e4), e5) e6 = rw (e2, e3, e4, e5, e6)
+
+  pub at-none : Past5 → test67 ≡ false → headCheck s ≡ Passed
+  at-none (((e2, e3), e4), e5) e6 = rw (e2, e3, e4, e5, e6)

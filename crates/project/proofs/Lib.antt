@@ -1,0 +1,8 @@
+pub mod TaskFaults
+pub mod Verdicts
+pub mod RoundTrips
+pub mod Accepted
+pub mod FileRules
+pub mod Heads
+pub mod ContentsLaws
+pub mod SeenLaws

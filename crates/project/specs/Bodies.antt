@@ -1,0 +1,36 @@
+-- Document 01, "Calls": Body. Definitions only.
+use mathlib.Core.Bool.{Bool, true, false, _&&_}
+use mathlib.Core.List.{List, []}
+use Prim.Native.Nat.{ℕ}
+use lib.Dec.{ltb}
+use Rattle.project.specs.declared.answers.Reading.{Reading}
+use Rattle.project.specs.declared.answers.Reading.the-variants.{Accepted, Refused}
+use Rattle.project.specs.File.{taskCount, offsetOf, sizeOf, bodyOf}
+use Rattle.project.specs.Reading.{readingOf}
+
+abbrev pub accepted : Reading → Bool
+accepted (Accepted n t) = true
+accepted (Refused c a) = false
+
+-- "an empty part if the file isn't accepted or the task isn't below t"
+abbrev pub hasBody : List ℕ → ℕ → Bool
+hasBody s j = accepted (readingOf s) && ltb j (taskCount s)
+
+abbrev pub pickNumber : Bool → ℕ → ℕ
+pickNumber true x = x
+pickNumber false x = 0
+
+abbrev pub pickPart : Bool → List ℕ → List ℕ
+pickPart true l = l
+pickPart false l = []
+
+-- where the body of task j stands and how long it is; an empty part at 0 where there is none
+abbrev pub placeStart : List ℕ → ℕ → ℕ
+placeStart s j = pickNumber (hasBody s j) (offsetOf s j)
+
+abbrev pub placeLength : List ℕ → ℕ → ℕ
+placeLength s j = pickNumber (hasBody s j) (sizeOf s j)
+
+-- "Body hands back a task's body as that part of the file"
+abbrev pub bodyPart : List ℕ → ℕ → List ℕ
+bodyPart s j = pickPart (hasBody s j) (bodyOf s j)

@@ -1,0 +1,9 @@
+pub mod File
+pub mod Checks
+pub mod Verdict
+pub mod Reading
+pub mod Bodies
+pub mod Writing
+pub mod Ends
+pub mod Tasks
+pub mod Seen

@@ -1,0 +1,49 @@
+-- Document 01, "Calls" and "Numbers of the checks": Writer. Definitions only.
+use mathlib.Core.Bool.{not}
+use mathlib.Core.List.{List, [], _∷_, _++_}
+use Prim.Native.Nat.{ℕ, _+_, _*_}
+use lib.Dec.{eqb, ltb}
+use lib.ListN.{length, take, drop}
+use Rattle.project.specs.declared.answers.Check.{Check}
+use Rattle.project.specs.declared.answers.Check.the-variants.{Passed}
+use Rattle.project.specs.declared.answers.Check.the-variants.{Refused as Failed}
+use Rattle.project.specs.declared.answers.Writing.{Writing}
+use Rattle.project.specs.declared.answers.Writing.the-variants.{Written, Refused}
+use Rattle.project.specs.File.{fileOf}
+use Rattle.project.specs.Reading.{andThen, unless, test5, test6, tasksCheck}
+
+-- the sum of the lengths
+abbrev pub total : List ℕ → ℕ
+total [] = 0
+total (l ∷ ls) = l + total ls
+
+-- the joined bodies, cut at their lengths
+abbrev pub cut : List ℕ → List ℕ → List (List ℕ)
+cut s [] = []
+cut s (l ∷ ls) = take l s ∷ cut (drop l s) ls
+
+-- how long the file of some joined bodies is
+abbrev pub fileLength : List ℕ → List ℕ → ℕ
+fileLength s ls = 8 + 4 * length ls + length s
+
+-- "Writer checks 5, 6 (number of lengths), 7 (their sum isn't the joined length), 8, 9, 10, 14."
+abbrev pub writerCheck : ℕ → List ℕ → List ℕ → List ℕ → Check
+writerCheck n s ls out =
+    andThen (unless 5 (test5 n)) (andThen (unless 6 (test6 (length ls))) (andThen (unless 7 (not (eqb (total ls) (length s))))
+    (andThen (tasksCheck (cut s ls)) (unless 14 (ltb (length out) (fileLength s ls))))))
+
+abbrev pub pickWriting : Check → ℕ → Writing
+pickWriting Passed l = Written l
+pickWriting (Failed c a) l = Refused c a
+
+-- "it writes the packed file and answers its length"
+abbrev pub writingOf : ℕ → List ℕ → List ℕ → List ℕ → Writing
+writingOf n s ls out = pickWriting (writerCheck n s ls out) (fileLength s ls)
+
+abbrev pub pickOut : Check → List ℕ → List ℕ → List ℕ
+pickOut Passed new old = new
+pickOut (Failed c a) new old = old
+
+-- "After a refusal .. out list keep their contents .. The writer changes only the bytes it counts."
+abbrev pub outOf : ℕ → List ℕ → List ℕ → List ℕ → List ℕ
+outOf n s ls out = pickOut (writerCheck n s ls out) (fileOf n (cut s ls) ++ drop (fileLength s ls) out) out

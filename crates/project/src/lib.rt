@@ -1,0 +1,5 @@
+// The project file.
+pub mod answers;
+pub mod contents;
+pub mod head;
+pub mod sharing;
