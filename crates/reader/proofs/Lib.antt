@@ -1,0 +1,2 @@
+pub mod TaskLaws
+pub mod ReadLaws

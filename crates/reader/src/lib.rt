@@ -1,0 +1,95 @@
+// Reader and Body: a project file read, and the body of a task in it.
+pub mod tasks;
+
+ghost use mathlib.Core.Path.{_≡_};
+ghost use Prim.Native.Nat.{_<_};
+ghost use Rattle.project.specs.Reading.{readingOf};
+ghost use Rattle.project.specs.Bodies.{placeStart, placeLength, bodyPart};
+use cache::references::number_at;
+use project::answers::Check;
+use project::answers::Reading;
+use project::contents::contents;
+use project::head::head;
+use tasks::check_tasks;
+
+// A byte as a count.
+fn count(x: u8) -> usize
+    ensures { λ r. ⌜ (r ≡ x) × (r < 256) ⌝ }
+{
+    x as usize
+}
+
+// Reader: n and t of a file, or the check that it fails first.
+pub fn read(file: &[u8]) -> Reading
+    ensures { λ r. ⌜ r ≡ readingOf (now (file .entry)) ⌝ }
+{
+    match head(file) {
+        Check::Refused { check, task } => Reading::Refused { check, task },
+        Check::Passed => {
+            let n = file[5];
+            let t = file[6];
+            let found = contents(file, count(t));
+            let ends = found.ends;
+            if found.fit {
+                match check_tasks(file, count(t), ends) {
+                    Check::Refused { check, task } => Reading::Refused { check, task },
+                    Check::Passed => Reading::Accepted { n, t },
+                }
+            } else {
+                Reading::Refused {
+                    check: 7,
+                    task: 255,
+                }
+            }
+        }
+    }
+}
+
+// Where a part of a file stands, and how long it is.
+pub struct BodyPlace {
+    pub start: usize,
+    pub length: usize,
+}
+
+// A two-byte number as a count.
+fn wide_count(x: u16) -> usize
+    ensures { λ r. ⌜ (r ≡ x) × (r < 65536) ⌝ }
+{
+    x as usize
+}
+
+// Where the body of a task stands; an empty part at 0 if the file isn't accepted or the task isn't below t.
+pub fn place(file: &[u8], task: usize) -> BodyPlace
+    ensures { λ r. ⌜ (r .start ≡ placeStart (now (file .entry)) task) × (r .length ≡ placeLength (now (file .entry)) task) ⌝ }
+{
+    match read(file) {
+        Reading::Refused { check: _, task: _ } => BodyPlace {
+            start: 0,
+            length: 0,
+        },
+        Reading::Accepted { n: _, t } => {
+            if task < count(t) {
+                let entry = 8 + 4 * task;
+                BodyPlace {
+                    start: wide_count(number_at(file, entry)),
+                    length: wide_count(number_at(file, entry + 2)),
+                }
+            } else {
+                BodyPlace {
+                    start: 0,
+                    length: 0,
+                }
+            }
+        }
+    }
+}
+
+// Body: the body of a task, as that part of the file.
+pub fn body(file: &[u8], task: usize) -> &[u8]
+    ensures { λ r. ⌜ now r ≡ bodyPart (now (file .entry)) task ⌝ }
+{
+    let found = place(file, task);
+    let from = found.start;
+    let to = from + found.length;
+    &file[from..to]
+}

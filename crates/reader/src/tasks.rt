@@ -1,0 +1,142 @@
+// Checks 8 to 10 over bodies that stand one after the other in a list of bytes.
+ghost use mathlib.Core.Path.{_≡_};
+ghost use mathlib.Core.List.{List, [], _++_};
+ghost use Prim.Native.Nat.{ℕ, _<_};
+ghost use Rattle.model.specs.Tasks.{memoryBlocks};
+ghost use Rattle.body.specs.Decode.{decode, taskOf};
+ghost use Rattle.project.specs.Reading.{lowest, test8, test9, meets, sharing, tasksCheck};
+ghost use Rattle.project.specs.Ends.{InOrder, between};
+ghost use Rattle.project.specs.Seen.{seenTable};
+use body::jumps::on_paths;
+use body::references;
+use body::walk;
+use project::answers::Check;
+use project::sharing::mark_all;
+use project::sharing::meets_seen;
+
+// Check 8 of one body.
+fn breaks_layout(body: &[u8]) -> bool
+    ensures { λ r. ⌜ r ≡ test8 (now (body .entry)) ⌝ }
+{
+    !walk(body).kept
+}
+
+// Check 9 of one body; a body that breaks its layout has no blocks.
+fn off_path(body: &[u8]) -> bool
+    ensures { λ r. ⌜ r ≡ test9 (now (body .entry)) ⌝ }
+{
+    let walked = walk(body);
+    if walked.kept {
+        !on_paths(body, walked)
+    } else {
+        false
+    }
+}
+
+// Whether some memory block of a body is marked.
+fn body_meets(table: &[u64; 1024], body: &[u8]) -> bool
+    ensures { λ r. ⌜ ((ms : List ℕ) → now (table .entry) ≡ seenTable ms → r ≡ meets (memoryBlocks (taskOf (decode (now (body .entry))))) ms) ⌝ }
+{
+    let walked = walk(body);
+    let starts = walked.starts;
+    for b in 0..walked.blocks {
+        let at = starts[b];
+        if meets_seen(table, references(body, at)) {
+            return true;
+        }
+    }
+    false
+}
+
+// The memory blocks of a body are marked.
+fn mark_body(table: &mut [u64; 1024], body: &[u8])
+    ensures { λ _. ⌜ ((ms : List ℕ) → now (table .entry) ≡ seenTable ms
+        → now (table .exit) ≡ seenTable (ms ++ memoryBlocks (taskOf (decode (now (body .entry)))))) ⌝ }
+{
+    let walked = walk(body);
+    let starts = walked.starts;
+    for b in 0..walked.blocks {
+        let at = starts[b];
+        mark_all(table, references(body, at));
+    }
+}
+
+// A task number as a byte.
+fn task_byte(j: usize) -> u8
+    requires { ⌜ j < 8 ⌝ }
+    ensures { λ r. ⌜ r ≡ j ⌝ }
+{
+    j as u8
+}
+
+// Check 8: the lowest task whose body breaks its layout.
+fn first_broken(bytes: &[u8], count: usize, ends: [usize; 9]) -> Check
+    requires { ⌜ InOrder (now bytes) ends count ⌝ }
+    ensures { λ r. ⌜ r ≡ lowest 8 test8 0 (between (now (bytes .entry)) ends count 0) ⌝ }
+{
+    for j in 0..count {
+        let from = ends[j];
+        let to = ends[j + 1];
+        if breaks_layout(&bytes[from..to]) {
+            return Check::Refused {
+                check: 8,
+                task: task_byte(j),
+            };
+        }
+    }
+    Check::Passed
+}
+
+// Check 9: the lowest task with a block on no complete path.
+fn first_off_path(bytes: &[u8], count: usize, ends: [usize; 9]) -> Check
+    requires { ⌜ InOrder (now bytes) ends count ⌝ }
+    ensures { λ r. ⌜ r ≡ lowest 9 test9 0 (between (now (bytes .entry)) ends count 0) ⌝ }
+{
+    for j in 0..count {
+        let from = ends[j];
+        let to = ends[j + 1];
+        if off_path(&bytes[from..to]) {
+            return Check::Refused {
+                check: 9,
+                task: task_byte(j),
+            };
+        }
+    }
+    Check::Passed
+}
+
+// Check 10: the lowest task that shares a memory block with an earlier one.
+fn first_sharing(bytes: &[u8], count: usize, ends: [usize; 9]) -> Check
+    requires { ⌜ InOrder (now bytes) ends count ⌝ }
+    ensures { λ r. ⌜ r ≡ sharing [] 0 (between (now (bytes .entry)) ends count 0) ⌝ }
+{
+    let mut table = [0u64; 1024];
+    for j in 0..count {
+        let from = ends[j];
+        let to = ends[j + 1];
+        if body_meets(&table, &bytes[from..to]) {
+            return Check::Refused {
+                check: 10,
+                task: task_byte(j),
+            };
+        }
+        mark_body(&mut table, &bytes[from..to]);
+    }
+    Check::Passed
+}
+
+// Checks 8 to 10, each for all tasks before the next.
+pub fn check_tasks(bytes: &[u8], count: usize, ends: [usize; 9]) -> Check
+    requires { ⌜ InOrder (now bytes) ends count ⌝ }
+    ensures { λ r. ⌜ r ≡ tasksCheck (between (now (bytes .entry)) ends count 0) ⌝ }
+{
+    let broken = first_broken(bytes, count, ends);
+    if let Check::Passed = broken {
+        let off = first_off_path(bytes, count, ends);
+        if let Check::Passed = off {
+            return first_sharing(bytes, count, ends);
+        }
+        return off;
+    }
+    broken
+}
