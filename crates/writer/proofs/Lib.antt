@@ -1,0 +1,4 @@
+pub mod PutLaws
+pub mod EndsLaws
+pub mod CheckLaws
+pub mod Trips

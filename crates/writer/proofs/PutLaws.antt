@@ -1,0 +1,103 @@
+-- The pieces put one after the other are the file.
+-- The idea: bytes put from a place on, and more from where they end, are all of them put from that place on.
+use mathlib.Core.Path.{_≡_, refl, sym, ap, ap₂, _∙_}
+use mathlib.Core.List.{List, [], _∷_, _++_}
+use Prim.Native.Nat.{ℕ, suc, _+_, _*_, _≤_, _<_}
+use native.Mathlib.Nat.{add-zero, add-suc, suc-add}
+use native.Mathlib.Numerals.{add-one}
+use native.Mathlib.Omega.{arith}
+use lib.ListN.{length, getD, drop, set, length-append, length-drop, take-append-drop, drop-of-length-le}
+use lib.Seq.{drop-cons, length-take-le, sets, sets-eq}
+use Rattle.body.specs.Layout.{twoBytes}
+use Rattle.project.specs.File.{mark, joined, contentsOf, fileOf}
+use Rattle.project.specs.Writing.{total, cut, fileLength}
+use Rattle.writer.specs.Pieces.{entries}
+
+-- ---- bytes put one after the other
+
+pub sets-append : (vs ws l : List ℕ) (i : ℕ) → sets l i (vs ++ ws) ≡ sets (sets l i vs) (i + length vs) ws
+sets-append [] ws l i = ap (λ k. sets l k ws) (sym (add-zero i))
+sets-append (a ∷ vs) ws l i =
+    sets-append vs ws (set l i a) (suc i) ∙ ap (λ k. sets (sets (set l i a) (suc i) vs) k ws) (suc-add i (length vs) ∙ sym (add-suc i (length vs)))
+
+-- a turn of the loop over bytes
+pub byte-turn : (bytes out : List ℕ) (at i : ℕ) → i < length bytes → sets (set out (at + i) (getD bytes i 0)) (at + (i + 1)) (drop (i + 1) bytes) ≡ sets out (at + i) (drop i bytes)
+byte-turn bytes out at i h =
+    let e : at + (i + 1) ≡ suc (at + i) = omega arith in
+    rw (e, add-one i, drop-cons bytes i 0 h)
+
+pub bytes-end : (bytes out : List ℕ) (at i : ℕ) → length bytes ≤ i → out ≡ sets out at (drop i bytes)
+bytes-end bytes out at i h = rw (drop-of-length-le bytes {i = i} h)
+
+-- a turn of the loop over lengths
+pub entry-turn : (ls out : List ℕ) {next : List ℕ} (offset j : ℕ) → j < length ls → next ≡ sets out (8 + 4 * j) (twoBytes (offset ∷ getD ls j 0 ∷ []))
+    → sets next (8 + 4 * (j + 1)) (entries (offset + getD ls j 0) (drop (j + 1) ls)) ≡ sets out (8 + 4 * j) (entries offset (drop j ls))
+entry-turn ls out offset j h e =
+    let four : 8 + 4 * (j + 1) ≡ 8 + 4 * j + 4 = omega arith in
+    rw (e, four, drop-cons ls j 0 h, add-one j)
+    (sym (sets-append (twoBytes (offset ∷ getD ls j 0 ∷ [])) (entries (offset + getD ls j 0) (drop (suc j) ls)) out (8 + 4 * j)))
+
+pub entries-end : (ls out : List ℕ) (offset at j : ℕ) → length ls ≤ j → out ≡ sets out at (entries offset (drop j ls))
+entries-end ls out offset at j h = rw (drop-of-length-le ls {i = j} h)
+
+pub total-step : (ls : List ℕ) (j : ℕ) → j < length ls → total (drop j ls) ≡ getD ls j 0 + total (drop (j + 1) ls)
+total-step ls j h = rw (drop-cons ls j 0 h, add-one j)
+
+pub total-end : (ls : List ℕ) (j : ℕ) → length ls ≤ j → total (drop j ls) ≡ 0
+total-end ls j h = rw (drop-of-length-le ls {i = j} h)
+
+-- ---- the bodies that the joined bodies are cut into
+
+pub length-cut : (s ls : List ℕ) → length (cut s ls) ≡ length ls
+length-cut s [] = refl
+length-cut s (l ∷ ls) = ap suc (length-cut (drop l s) ls)
+
+pub joined-cut : (s ls : List ℕ) → total ls ≡ length s → joined (cut s ls) ≡ s
+joined-cut [] [] e = refl
+joined-cut (x ∷ s) [] e = absurd (omega arith)
+joined-cut s (l ∷ ls) e = rw (joined-cut (drop l s) ls (simp length-drop (omega arith))) (take-append-drop l s)
+
+pub contents-cut : (at : ℕ) (s ls : List ℕ) → total ls ≤ length s → contentsOf at (cut s ls) ≡ entries at ls
+contents-cut at s [] h = refl
+contents-cut at s (l ∷ ls) h =
+    rw (length-take-le l s (omega arith), contents-cut (at + l) (drop l s) ls (simp length-drop (omega arith)))
+
+length-entries : (at : ℕ) (ls : List ℕ) → length (entries at ls) ≡ 4 * length ls
+length-entries at [] = refl
+length-entries at (l ∷ ls) = omega (arith, length-entries (at + l) ls)
+
+-- ---- the whole file
+
+module _ (n : ℕ) (s ls out : List ℕ) (t : ℕ) (et : t ≡ length ls) (e : total ls ≡ length s) (room : fileLength s ls ≤ length out) where
+  packed : List ℕ
+  packed = mark ++ ((1 ∷ n ∷ t ∷ 0 ∷ []) ++ (entries (8 + 4 * t) ls ++ s))
+
+  file-packed : fileOf n (cut s ls) ≡ packed
+  unfolding packed
+  file-packed = rw (length-cut s ls, joined-cut s ls e, et, contents-cut (8 + 4 * length ls) s ls (omega arith))
+
+  length-packed : length packed ≡ fileLength s ls
+  unfolding packed
+  length-packed = rw et (omega (arith, length-append (entries (8 + 4 * length ls) ls) s, length-entries (8 + 4 * length ls) ls))
+
+  pieces : sets out 0 packed ≡ sets (sets (sets (sets out 0 mark) 4 (1 ∷ n ∷ t ∷ 0 ∷ [])) 8 (entries (8 + 4 * t) ls)) (8 + 4 * t) s
+  unfolding packed
+  pieces =
+      let head : List ℕ = 1 ∷ n ∷ t ∷ 0 ∷ [] in
+      let rest = entries (8 + 4 * t) ls in
+      let o2 = sets (sets out 0 mark) 4 head in
+      sets-append mark (head ++ (rest ++ s)) out 0
+      ∙ sets-append head (rest ++ s) (sets out 0 mark) 4
+      ∙ sets-append rest s o2 8
+      ∙ ap (λ k. sets (sets o2 8 rest) k s) (omega (arith, length-entries (8 + 4 * t) ls))
+
+  -- the four pieces of the file, put one after the other
+  pub file-put : {o1 o2 o3 o4 : List ℕ} → o1 ≡ sets out 0 mark → o2 ≡ sets o1 4 (1 ∷ n ∷ t ∷ 0 ∷ []) → o3 ≡ sets o2 8 (entries (8 + 4 * t) ls)
+      → o4 ≡ sets o3 (8 + 4 * t) s → o4 ≡ fileOf n (cut s ls) ++ drop (fileLength s ls) out
+  file-put e1 e2 e3 e4 =
+      let long : 0 + length packed ≡ fileLength s ls = omega (arith, length-packed) in
+      e4
+      ∙ ap (λ o. sets o (8 + 4 * t) s) (e3 ∙ ap (λ o. sets o 8 (entries (8 + 4 * t) ls)) (e2 ∙ ap (λ o. sets o 4 (1 ∷ n ∷ t ∷ 0 ∷ [])) e1))
+      ∙ sym pieces
+      ∙ sets-eq packed out 0 (omega (arith, length-packed))
+      ∙ ap₂ (λ (p : List ℕ) (k : ℕ). p ++ drop k out) (sym file-packed) long

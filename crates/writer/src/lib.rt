@@ -1,0 +1,60 @@
+// Writer: the packed file of n and the joined bodies.
+ghost use mathlib.Core.Path.{_≡_};
+ghost use Rattle.project.specs.Writing.{writerCheck, writingOf, outOf};
+use crate::ends::ends_of;
+use crate::put::put_file;
+use project::answers::Check;
+use project::answers::Writing;
+use reader::tasks::check_tasks;
+
+mod ends;
+mod put;
+
+// A check that fails and names no task.
+fn refused(check: u8) -> Check
+    ensures { λ r. ⌜ r ≡ Check.Refused check 255 ⌝ }
+{
+    Check::Refused { check, task: 255 }
+}
+
+// The first of the checks 5 to 10 and 14 that fails.
+fn first_failed(n: u8, bodies: &[u8], lengths: &[usize], out: &[u8]) -> Check
+    ensures { λ r. ⌜ r ≡ writerCheck n (now (bodies .entry)) (now (lengths .entry)) (now (out .entry)) ⌝ }
+{
+    if n < 1 || 16 < n {
+        return refused(5);
+    }
+    let t = lengths.len();
+    if t < 1 || 8 < t {
+        return refused(6);
+    }
+    let found = ends_of(bodies, lengths);
+    if !found.fit {
+        return refused(7);
+    }
+    let ends = found.ends;
+    let tasks = check_tasks(bodies, t, ends);
+    if let Check::Passed = tasks {
+        if out.len() < 8 + 4 * t + bodies.len() {
+            return refused(14);
+        }
+    }
+    tasks
+}
+
+// The file of n and the joined bodies is written to the front of out, if no check fails.
+pub fn write(n: u8, bodies: &[u8], lengths: &[usize], out: &mut [u8]) -> Writing
+    ensures { λ r. ⌜ (r ≡ writingOf n (now (bodies .entry)) (now (lengths .entry)) (now (out .entry)))
+        × (now (out .exit) ≡ outOf n (now (bodies .entry)) (now (lengths .entry)) (now (out .entry))) ⌝ }
+{
+    let found = first_failed(n, bodies, lengths, out);
+    match found {
+        Check::Refused { check, task } => Writing::Refused { check, task },
+        Check::Passed => {
+            put_file(n, bodies, lengths, out);
+            Writing::Written {
+                length: 8 + 4 * lengths.len() + bodies.len(),
+            }
+        }
+    }
+}

@@ -1,0 +1,63 @@
+// The pieces of a file, each put where it belongs in the out list.
+ghost use mathlib.Core.Path.{_≡_};
+ghost use mathlib.Core.List.{[], _∷_, _++_};
+ghost use Prim.Native.Nat.{_+_, _*_, _≤_, _<_};
+ghost use lib.ListN.{length, drop};
+ghost use lib.Seq.{sets};
+ghost use Rattle.body.specs.Layout.{twoBytes};
+ghost use Rattle.project.specs.File.{fileOf};
+ghost use Rattle.project.specs.Writing.{total, cut, fileLength};
+ghost use Rattle.writer.specs.Pieces.{entries};
+use project::head::MARK;
+
+// The bytes are put in their order from at on.
+fn put_bytes(out: &mut [u8], at: usize, bytes: &[u8])
+    requires { ⌜ at + length (now bytes) ≤ length (now out) ⌝ }
+    ensures { λ _. ⌜ now (out .exit) ≡ sets (now (out .entry)) at (now (bytes .entry)) ⌝ }
+{
+    for i in 0..bytes.len() {
+        out[at + i] = bytes[i];
+    }
+}
+
+// The offset and the length of a body are put at at, each as two bytes, low byte first.
+fn put_entry(out: &mut [u8], at: usize, offset: usize, size: usize)
+    requires { ⌜ (at + 4 ≤ length (now out)) × (offset < 65536) × (size < 65536) ⌝ }
+    ensures { λ _. ⌜ now (out .exit) ≡ sets (now (out .entry)) at (twoBytes (offset ∷ size ∷ [])) ⌝ }
+{
+    let entry = [
+        (offset % 256) as u8,
+        (offset / 256) as u8,
+        (size % 256) as u8,
+        (size / 256) as u8,
+    ];
+    put_bytes(out, at, &entry);
+}
+
+// The contents are put after the head.
+fn put_contents(out: &mut [u8], lengths: &[usize])
+    requires { ⌜ (8 + 4 * length (now lengths) ≤ length (now out)) × (8 + 4 * length (now lengths) + total (now lengths) < 65536) ⌝ }
+    ensures { λ _. ⌜ now (out .exit) ≡ sets (now (out .entry)) 8 (entries (8 + 4 * length (now (lengths .entry))) (now (lengths .entry))) ⌝ }
+{
+    let mut offset = 8 + 4 * lengths.len();
+    for j in 0..lengths.len() {
+        let size = lengths[j];
+        put_entry(out, 8 + 4 * j, offset, size);
+        offset += size;
+    }
+}
+
+// The file of n and the joined bodies is put to the front of out.
+pub fn put_file(n: u8, bodies: &[u8], lengths: &[usize], out: &mut [u8])
+    requires { ⌜ (length (now lengths) ≤ 8) × (total (now lengths) ≡ length (now bodies))
+        × (fileLength (now bodies) (now lengths) < 65536) × (fileLength (now bodies) (now lengths) ≤ length (now out)) ⌝ }
+    ensures { λ _. ⌜ now (out .exit) ≡ fileOf n (cut (now (bodies .entry)) (now (lengths .entry)))
+        ++ drop (fileLength (now (bodies .entry)) (now (lengths .entry))) (now (out .entry)) ⌝ }
+{
+    let t = lengths.len();
+    let head = [1, n, t as u8, 0];
+    put_bytes(out, 0, &MARK);
+    put_bytes(out, 4, &head);
+    put_contents(out, lengths);
+    put_bytes(out, 8 + 4 * t, bodies);
+}
