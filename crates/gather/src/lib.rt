@@ -1,0 +1,3 @@
+// Gathering the cache states of a graph of basic blocks.
+pub mod gather;
+pub mod rows;
