@@ -1,0 +1,4 @@
+pub mod Area
+pub mod Filling
+pub mod RowPart
+pub mod Graphs

@@ -1,0 +1,3 @@
+// The reaching and live states of a task, in a work area.
+pub mod answers;
+pub mod row;
