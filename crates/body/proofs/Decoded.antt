@@ -7,7 +7,7 @@ use mathlib.Core.List.{List, [], _∷_, _++_, append-assoc}
 use Prim.Native.Nat.{ℕ, zero, suc, _+_, _*_, _≤_, _<_}
 use native.Mathlib.Omega.{arith}
 use lib.Dec.{eqb, leb}
-use lib.ListN.{length, take, drop, length-append, length-take, length-drop, take-append-drop}
+use lib.ListN.{length, getD, take, drop, length-append, length-take, length-drop, take-append-drop}
 use lib.Seq.{take-at, drop-at, take-add}
 use borrow.Author.Tests.{eqb-true, eq-eqb, leb-true, le-leb}
 use Rattle.cache.specs.References.{Real, All, numbers}
@@ -236,6 +236,18 @@ blocks-real B (x ∷ t) h = all-join Real (x .references) (memoryBlocks t) (all-
 
 pub decoded-real : (s : List ℕ) (t : Task) → decode s ≡ decoded t → All Real (memoryBlocks t)
 decoded-real s t e = blocks-real (length t) t (decoded-bounds s t e .each)
+
+-- ---- its first byte is the number of its blocks
+
+pub record FirstByte (s : List ℕ) (t : Task) : Type 0 where
+  pub there : 1 ≤ length s
+  pub count : getD s 0 0 ≡ length t
+
+pub first-byte : (s : List ℕ) (t : Task) → decode s ≡ decoded t → FirstByte s t
+unfolding decode
+first-byte [] t e = no-task e
+first-byte (B ∷ []) t e = no-task e
+first-byte (B ∷ z ∷ s) t e = record { there = omega arith; count = sym (read-length (opened B z s t e .read)) }
 
 -- ---- how long a body is, by its decoding alone
 

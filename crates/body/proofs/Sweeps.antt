@@ -95,7 +95,7 @@ bits-equal w P Q e c h = sym (bits-test w c P h) ∙ ap (λ x. not (eqb (bitAnd 
 
 -- ---- the sets of a task's jumps
 
-jump-at : (t : Task) (rest : List ℕ) (b : ℕ) → b < length t → getD (map (λ (x : Block). setOf (x .successors)) t ++ rest) b 0 ≡ setOf (block t b .successors)
+pub jump-at : (t : Task) (rest : List ℕ) (b : ℕ) → b < length t → getD (map (λ (x : Block). setOf (x .successors)) t ++ rest) b 0 ≡ setOf (block t b .successors)
 jump-at [] rest b h = absurd (not-suc-le-zero h)
 jump-at (x ∷ t) rest zero h = refl
 jump-at (x ∷ t) rest (suc b) h = jump-at t rest b (omega arith)

@@ -1,13 +1,14 @@
 // The body of a task: whether its bytes keep the layout, and where its blocks and their parts stand.
-mod block;
+pub mod block;
 pub mod jumps;
 pub mod paths;
 
 use block::BlockEnd;
 ghost use mathlib.Core.Path.{_≡_};
+ghost use mathlib.Core.Bool.{true};
 ghost use Prim.Native.Nat.{_≤_};
 ghost use lib.ListN.{length};
-ghost use Rattle.body.specs.Decode.{decode};
+ghost use Rattle.body.specs.Decode.{decode, taskOf};
 ghost use Rattle.body.specs.Walk.{keptOf, blocksOf, startsOf};
 ghost use Rattle.body.specs.Parts.{successorsEnd, referencesEnd, successorsAt, referencesAt};
 
@@ -63,6 +64,14 @@ pub fn walk(body: &[u8]) -> BodyWalk
         blocks: all,
         starts,
     }
+}
+
+// How many blocks a body has that keeps its layout.
+pub fn block_count(body: &[u8]) -> usize
+    requires { ⌜ keptOf (decode (now body)) ≡ true ⌝ }
+    ensures { λ r. ⌜ (r ≡ length (taskOf (decode (now (body .entry))))) × (1 ≤ r) × (r ≤ 24) ⌝ }
+{
+    block::count(body[0])
 }
 
 // The successors of the block that begins at `at`, one byte each.

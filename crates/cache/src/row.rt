@@ -1,7 +1,7 @@
 // A row: for each cache block the memory block that it holds, or nothing.
 ghost use mathlib.Core.Path.{_≡_};
 ghost use Prim.Native.Nat.{_<_, _≤_};
-ghost use Rattle.cache.specs.Cache.{wide, held, hits, withReference};
+ghost use Rattle.cache.specs.Cache.{wide, held, withReference};
 ghost use Rattle.cache.specs.Firsts.{withFirst};
 use crate::blocks::MemoryBlock;
 
@@ -28,13 +28,6 @@ impl Row {
         ensures { λ r. ⌜ r ≡ held (row .cells) (wide 16 n .place (m .0)) ⌝ }
     {
         row.cells[m.cache_block(n).index()]
-    }
-
-    pub fn hits(row: Row, m: MemoryBlock, n: u8) -> bool
-        requires { ⌜ (0 < n) × (n ≤ 16) ⌝ }
-        ensures { λ r. ⌜ r ≡ hits (wide 16 n) (row .cells) (m .0) ⌝ }
-    {
-        Row::held(row, m, n) == m.number()
     }
 
     pub fn with_reference(row: Row, m: MemoryBlock, n: u8) -> Row

@@ -1,5 +1,5 @@
--- The three answers of appending a row, and what they say of the rows of the part.
--- The answer goes by the tests that the code makes; a row stored after the others is the last of one row more.
+-- A row appended to the rows of a block in memory: what each answer says of the memory.
+-- A row stored after the others is the last of one row more, and no other block's part is touched.
 use mathlib.Core.Path.{_≡_, refl, sym, ap₂, _∙_}
 use mathlib.Core.Logic.{_≢_}
 use mathlib.Core.Bool.{Bool, true, false, true≢false, false≢true}
@@ -13,48 +13,13 @@ use borrow.Author.Tests.{le-leb, lt-leb, leb-true, leb-false, eqb-true, eqb-fals
 use borrow.Rule.Slice.PartMut.{putMid}
 use Rattle.model.specs.Lists.{mem}
 use Rattle.model.specs.Computed.{sameList}
-use Rattle.gather.specs.Rows.{rowsOf, partOf}
-use Rattle.gather.specs.Append.{put, pickAppended, appended, partAfter}
+use Rattle.rows.specs.Rows.{rowsOf, partOf}
+use Rattle.rows.specs.Append.{put, pickAppended, appended, partAfter}
 use Rattle.gather.specs.Memory.{heldRows, Memory, AppendedTo}
-use Rattle.gather.specs.declared.rows.Appended.{Appended}
-use Rattle.gather.specs.declared.rows.Appended.the-variants.{Present, Added, Full}
-use Rattle.gather.proofs.Parts.{rows-put, length-put, replaced-length, replaced-here, replaced-before, replaced-after, lent-back}
-
-module _ (part : List ℕ) (count : ℕ) (row : List ℕ) where
-  pub answer-present : mem sameList row (rowsOf 16 count part) ≡ true → Present ≡ appended part count row
-  answer-present e = rw e
-
-  pub answer-full : mem sameList row (rowsOf 16 count part) ≡ false → 32 ≤ count → Full ≡ appended part count row
-  answer-full e h = rw (e, le-leb 32 count h)
-
-  pub answer-added : mem sameList row (rowsOf 16 count part) ≡ false → count < 32 → Added ≡ appended part count row
-  answer-added e h = rw (e, lt-leb 32 count h)
-
-  -- ---- and what each answer tells
-
-  tell-present : (m f : Bool) → Present ≡ pickAppended m Present (pickAppended f Full Added) → m ≡ true
-  tell-present true f e = refl
-  tell-present false true e = let z : _≡_ {A = ℕ} 0 1 = cc in absurd (omega arith)
-  tell-present false false e = let z : _≡_ {A = ℕ} 0 1 = cc in absurd (omega arith)
-
-  tell-full : (m f : Bool) → Full ≡ pickAppended m Present (pickAppended f Full Added) → (m ≡ false) × (f ≡ true)
-  tell-full true f e = let z : _≡_ {A = ℕ} 0 1 = cc in absurd (omega arith)
-  tell-full false true e = (refl, refl)
-  tell-full false false e = let z : _≡_ {A = ℕ} 0 1 = cc in absurd (omega arith)
-
-  tell-added : (m f : Bool) → Added ≡ pickAppended m Present (pickAppended f Full Added) → (m ≡ false) × (f ≡ false)
-  tell-added true f e = let z : _≡_ {A = ℕ} 0 1 = cc in absurd (omega arith)
-  tell-added false true e = let z : _≡_ {A = ℕ} 0 1 = cc in absurd (omega arith)
-  tell-added false false e = (refl, refl)
-
-  pub is-present : Present ≡ appended part count row → mem sameList row (rowsOf 16 count part) ≡ true
-  is-present e = tell-present (mem sameList row (rowsOf 16 count part)) (leb 32 count) e
-
-  pub is-full : Full ≡ appended part count row → (mem sameList row (rowsOf 16 count part) ≡ false) × (32 ≤ count)
-  is-full e = let t = tell-full (mem sameList row (rowsOf 16 count part)) (leb 32 count) e in (t .0, leb-true 32 count (t .1))
-
-  pub is-added : Added ≡ appended part count row → (mem sameList row (rowsOf 16 count part) ≡ false) × (count < 32)
-  is-added e = let t = tell-added (mem sameList row (rowsOf 16 count part)) (leb 32 count) e in (t .0, leb-false 32 count (t .1))
+use Rattle.rows.specs.declared.Appended.{Appended}
+use Rattle.rows.specs.declared.Appended.the-variants.{Present, Added, Full}
+use Rattle.rows.proofs.Parts.{rows-put, length-put, replaced-length, replaced-here, replaced-before, replaced-after, lent-back}
+use Rattle.rows.proofs.Answers.{is-present, is-full, is-added}
 
 -- ---- the rows of block s in memory
 

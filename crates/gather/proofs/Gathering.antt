@@ -14,12 +14,12 @@ use Rattle.model.specs.Lists.{mem}
 use Rattle.model.specs.Computed.{sameList, sorted}
 use Rattle.model.proofs.Membership.{or-cases, or-left, or-right, sameList-self, sameList-true}
 use Rattle.model.proofs.Sorted.{sorted-rising, sorted-has, sorted-only, rising-unique}
-use Rattle.gather.specs.Overlay.{overlay}
-use Rattle.gather.specs.Rows.{rowsOf, partOf}
+use Rattle.rows.specs.Overlay.{overlay}
+use Rattle.rows.specs.Rows.{rowsOf, partOf}
 use Rattle.gather.specs.Graph.{Graph, rowAt, inSet, handedOn, Gets, begins, handed, Listed, tooMany}
 use Rattle.gather.specs.Memory.{heldRows, Memory, withRow, AppendedTo, Handed, FullAt}
 use Rattle.gather.specs.Gathered.{GatheredRows, GatheredAs}
-use Rattle.gather.proofs.Parts.{rows-length}
+use Rattle.rows.proofs.Parts.{rows-length}
 use Rattle.gather.proofs.Distinct.{Distinct, mem-getD, number-of, with-has, with-self, with-only, with-distinct, with-getD, with-length, no-longer, sorted-length}
 
 -- what holds while rows are gathered: `done` counts the rows of each block that were handed on
@@ -61,7 +61,7 @@ module _ {g : Graph} {b : ℕ} {row : List ℕ} {s : ℕ} {old new : List (List 
   step-length (same e) = rw e (omega arith)
   step-length (more l m e) = rw e (with-length (handedOn g b s row) old)
 
-many-before : (all : ℕ → List (List ℕ)) (s n : ℕ) → s < n → 32 < length (all s) → tooMany all n ≡ true
+pub many-before : (all : ℕ → List (List ℕ)) (s n : ℕ) → s < n → 32 < length (all s) → tooMany all n ≡ true
 many-before all s zero h l = absurd (omega arith)
 many-before all s (suc n) h l = go (eqb s n) refl (many-before all s n)
   where

@@ -10,11 +10,11 @@ use lib.ListN.{length, getD, take, drop}
 use lib.Bits.{bitAnd}
 use borrow.Author.Tests.{eqb-true, eqb-false, eq-eqb, ne-eqb}
 use Rattle.cache.proofs.Masks.{one-at}
-use Rattle.gather.specs.Overlay.{overlay}
-use Rattle.gather.specs.Rows.{partOf}
+use Rattle.rows.specs.Overlay.{overlay}
+use Rattle.rows.specs.Rows.{partOf}
 use Rattle.gather.specs.Graph.{rowAt, inSet}
 use Rattle.gather.specs.Memory.{heldRows, Memory, withRow, AppendedTo, Handed, FullAt, HandedOn}
-use Rattle.gather.proofs.Parts.{rows-length, rows-at}
+use Rattle.rows.proofs.Parts.{rows-length, rows-at}
 
 -- ---- the test of a bit, and the row at a block, in the code's words
 

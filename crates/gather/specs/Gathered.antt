@@ -5,7 +5,7 @@ use mathlib.Core.List.{List}
 use Prim.Native.Nat.{ℕ, _≤_, _<_}
 use lib.ListN.{length, getD}
 use Rattle.model.specs.Computed.{sorted}
-use Rattle.gather.specs.Rows.{rowsOf, partOf}
+use Rattle.rows.specs.Rows.{rowsOf, partOf}
 use Rattle.gather.specs.Graph.{Graph, Listed, tooMany}
 
 -- the graph of the code's numbers

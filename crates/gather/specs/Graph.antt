@@ -10,7 +10,7 @@ use lib.Bits.{bitAnd}
 use Rattle.model.specs.Lists.{mem}
 use Rattle.model.specs.Order.{Rising}
 use Rattle.model.specs.Computed.{sameList}
-use Rattle.gather.specs.Overlay.{overlay}
+use Rattle.rows.specs.Overlay.{overlay}
 
 -- a graph of blocks: a row of the block b is handed on to each block in the set of b, overlaid by the row of `leaving` at b and then
 -- by the row of `entering` at the block that gets it; it begins with one row at one block

@@ -8,8 +8,8 @@ use lib.Dec.{ltb}
 use lib.ListN.{length, getD}
 use Rattle.model.specs.Lists.{mem}
 use Rattle.model.specs.Computed.{sameList}
-use Rattle.gather.specs.Overlay.{overlay}
-use Rattle.gather.specs.Rows.{rowsOf, partOf}
+use Rattle.rows.specs.Overlay.{overlay}
+use Rattle.rows.specs.Rows.{rowsOf, partOf}
 use Rattle.gather.specs.Graph.{rowAt, inSet}
 use Rattle.gather.specs.declared.gather.Waiting.{Waiting}
 use Rattle.gather.specs.declared.gather.Waiting.the-variants.{At, None}

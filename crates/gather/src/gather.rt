@@ -4,10 +4,10 @@ ghost use Prim.Native.Nat.{_<_, _≤_};
 ghost use lib.ListN.{length, replicate};
 ghost use Rattle.gather.specs.Memory.{Memory, AppendedTo, HandedOn, firstWaiting};
 ghost use Rattle.gather.specs.Gathered.{GatherInput, GatheredAs, graphOf};
-use crate::rows::Appended;
-use crate::rows::append_row;
-use crate::rows::overlay_row;
-use crate::rows::row_at;
+use rows::Appended;
+use rows::append_row;
+use rows::overlay_row;
+use rows::row_at;
 
 // No block has a row.
 fn clear(counts: &mut [usize])

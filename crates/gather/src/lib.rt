@@ -1,3 +1,2 @@
 // Gathering the cache states of a graph of basic blocks.
 pub mod gather;
-pub mod rows;

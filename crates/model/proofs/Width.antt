@@ -36,13 +36,13 @@ module _ (n : ℕ) (pos : 0 < n) (d : ℕ) where
 
   -- ---- rows
 
-  padded-empty : emptyRow broad ≡ padded (emptyRow narrow)
+  pub padded-empty : emptyRow broad ≡ padded (emptyRow narrow)
   padded-empty = sym (replicate-append-replicate n d nothing)
 
-  padded-reference : (row : List ℕ) (m : ℕ) → length row ≡ n → withReference broad (padded row) m ≡ padded (withReference narrow row m)
+  pub padded-reference : (row : List ℕ) (m : ℕ) → length row ≡ n → withReference broad (padded row) m ≡ padded (withReference narrow row m)
   padded-reference row m e = set-append-left row (replicate d nothing) (m % n) m (rw e (mod-lt m pos))
 
-  padded-references : (ms row : List ℕ) → length row ≡ n → withReferences broad (padded row) ms ≡ padded (withReferences narrow row ms)
+  pub padded-references : (ms row : List ℕ) → length row ≡ n → withReferences broad (padded row) ms ≡ padded (withReferences narrow row ms)
   padded-references [] row e = refl
   padded-references (m ∷ ms) row e =
       ap (λ r. withReferences broad r ms) (padded-reference row m e) ∙ padded-references ms (withReference narrow row m) (length-withReference narrow row m e)
@@ -92,7 +92,7 @@ module _ (n : ℕ) (pos : 0 < n) (d : ℕ) where
 
   -- ---- counts
 
-  held-inner : (row : List ℕ) (c : ℕ) → length row ≡ n → c < n → held (padded row) c ≡ held row c
+  pub held-inner : (row : List ℕ) (c : ℕ) → length row ≡ n → c < n → held (padded row) c ≡ held row c
   held-inner row c e h = List·getD-append row (replicate d nothing) nothing c (rw e h)
 
   held-outer : (row : List ℕ) (c : ℕ) → length row ≡ n → c < d → held (padded row) (n + c) ≡ nothing

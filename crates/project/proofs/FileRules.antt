@@ -36,7 +36,7 @@ use Rattle.project.proofs.Verdicts.{bodies-bytes, reading-verdict}
 use Rattle.project.proofs.ContentsLaws.{contents-exact}
 use Rattle.project.proofs.Accepted.{then-passed, none-lowest, Passing, passing, accepted-passed}
 
-each-at : (P : List ℕ → Type 0) (bs : List (List ℕ)) → Each P bs → (j : ℕ) → j < length bs → P (body bs j)
+pub each-at : (P : List ℕ → Type 0) (bs : List (List ℕ)) → Each P bs → (j : ℕ) → j < length bs → P (body bs j)
 each-at P [] h j l = absurd (not-suc-le-zero l)
 each-at P (b ∷ bs) h zero l = h .0
 each-at P (b ∷ bs) h (suc j) l = each-at P bs (h .1) j (omega arith)

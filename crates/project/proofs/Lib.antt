@@ -5,4 +5,4 @@ pub mod Accepted
 pub mod FileRules
 pub mod Heads
 pub mod ContentsLaws
-pub mod SeenLaws
+pub mod SharingLaws

@@ -4,6 +4,7 @@ pub mod Verdict
 pub mod Reading
 pub mod Bodies
 pub mod Writing
+pub mod Filling
 pub mod Ends
 pub mod Tasks
-pub mod Seen
+pub mod FileE

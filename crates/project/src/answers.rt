@@ -15,3 +15,9 @@ pub enum Writing {
     Written { length: usize },
     Refused { check: u8, task: u8 },
 }
+
+// What filling a work area answers: that it is filled, or the check that fails first and the task it names.
+pub enum Filling {
+    Filled,
+    Refused { check: u8, task: u8 },
+}

@@ -1,2 +1,3 @@
 pub mod TaskLaws
 pub mod ReadLaws
+pub mod TaskBodies

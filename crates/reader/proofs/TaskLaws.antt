@@ -18,7 +18,7 @@ use Rattle.project.specs.declared.answers.Check.the-variants.{Passed}
 use Rattle.project.specs.declared.answers.Check.the-variants.{Refused as Failed}
 use Rattle.project.specs.Reading.{lowest, test8, test9, meets, sharing, tasksCheck}
 use Rattle.project.specs.Ends.{between, InOrder}
-use Rattle.project.proofs.SeenLaws.{meets-append}
+use Rattle.project.proofs.SharingLaws.{meets-append}
 
 -- ---- one check after the other
 

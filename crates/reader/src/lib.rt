@@ -2,22 +2,19 @@
 pub mod tasks;
 
 ghost use mathlib.Core.Path.{_≡_};
-ghost use Prim.Native.Nat.{_<_};
+ghost use mathlib.Core.Bool.{true};
+ghost use Prim.Native.Nat.{_+_, _≤_, _<_};
+ghost use lib.ListN.{length};
+ghost use Rattle.project.specs.File.{taskCount, offsetOf, sizeOf};
 ghost use Rattle.project.specs.Reading.{readingOf};
-ghost use Rattle.project.specs.Bodies.{placeStart, placeLength, bodyPart};
+ghost use Rattle.project.specs.Bodies.{accepted, placeStart, placeLength, bodyPart};
+use body::block::count;
 use cache::references::number_at;
 use project::answers::Check;
 use project::answers::Reading;
 use project::contents::contents;
 use project::head::head;
 use tasks::check_tasks;
-
-// A byte as a count.
-fn count(x: u8) -> usize
-    ensures { λ r. ⌜ (r ≡ x) × (r < 256) ⌝ }
-{
-    x as usize
-}
 
 // Reader: n and t of a file, or the check that it fails first.
 pub fn read(file: &[u8]) -> Reading
@@ -58,6 +55,19 @@ fn wide_count(x: u16) -> usize
     x as usize
 }
 
+// Where the body of a task of an accepted file stands, by the contents.
+pub fn entry(file: &[u8], task: usize) -> BodyPlace
+    requires { ⌜ (accepted (readingOf (now file)) ≡ true) × (task < taskCount (now file)) ⌝ }
+    ensures { λ r. ⌜ (r .start ≡ offsetOf (now (file .entry)) task) × (r .length ≡ sizeOf (now (file .entry)) task)
+        × (r .start + r .length ≤ length (now (file .entry))) ⌝ }
+{
+    let at = 8 + 4 * task;
+    BodyPlace {
+        start: wide_count(number_at(file, at)),
+        length: wide_count(number_at(file, at + 2)),
+    }
+}
+
 // Where the body of a task stands; an empty part at 0 if the file isn't accepted or the task isn't below t.
 pub fn place(file: &[u8], task: usize) -> BodyPlace
     ensures { λ r. ⌜ (r .start ≡ placeStart (now (file .entry)) task) × (r .length ≡ placeLength (now (file .entry)) task) ⌝ }
@@ -69,11 +79,7 @@ pub fn place(file: &[u8], task: usize) -> BodyPlace
         },
         Reading::Accepted { n: _, t } => {
             if task < count(t) {
-                let entry = 8 + 4 * task;
-                BodyPlace {
-                    start: wide_count(number_at(file, entry)),
-                    length: wide_count(number_at(file, entry + 2)),
-                }
+                entry(file, task)
             } else {
                 BodyPlace {
                     start: 0,

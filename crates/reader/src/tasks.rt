@@ -6,7 +6,7 @@ ghost use Rattle.model.specs.Tasks.{memoryBlocks};
 ghost use Rattle.body.specs.Decode.{decode, taskOf};
 ghost use Rattle.project.specs.Reading.{lowest, test8, test9, meets, sharing, tasksCheck};
 ghost use Rattle.project.specs.Ends.{InOrder, between};
-ghost use Rattle.project.specs.Seen.{seenTable};
+ghost use Rattle.seen.specs.Seen.{seenTable};
 use body::jumps::on_paths;
 use body::references;
 use body::walk;
@@ -62,7 +62,7 @@ fn mark_body(table: &mut [u64; 1024], body: &[u8])
 }
 
 // A task number as a byte.
-fn task_byte(j: usize) -> u8
+pub fn task_byte(j: usize) -> u8
     requires { ⌜ j < 8 ⌝ }
     ensures { λ r. ⌜ r ≡ j ⌝ }
 {

@@ -1,2 +1,3 @@
-pub mod Graphs
-pub mod RowLaws
+pub mod Bodies
+pub mod Fillings
+pub mod AreaStates

@@ -1,4 +1,1 @@
-pub mod Area
 pub mod Filling
-pub mod RowPart
-pub mod Graphs

@@ -1,3 +1,2 @@
 // The reaching and live states of a task, in a work area.
-pub mod answers;
-pub mod row;
+pub mod states;

@@ -1,14 +1,11 @@
 -- `place` meets its contract: the contents of an accepted file say where each body stands. Assumes nothing.
-use mathlib.Core.Path.{sym, _∙_}
+use mathlib.Core.Path.{sym, ap, _∙_}
 use native.Mathlib.Omega.{arith}
-use Rattle.reader.proofs.ReadLaws.{InFile, body-inside, place-there, place-refused, place-above}
+use Rattle.project.specs.Bodies.{accepted}
+use Rattle.reader.proofs.ReadLaws.{body-inside, place-there, place-refused, place-above}
 use borrow.Author.Needs.{needs}
 use Rattle.reader.proofs.place.Statement.{statement}
 use Rattle.reader.proofs.place.Tie as tie
-
--- the task is one of an accepted file
-inside : (c : tie.Then1) → InFile (c .before .before .before .before .before .before .before .args .file .now) (c .before .before .before .before .before .before .before .args .task)
-inside c = body-inside (c .before .before .before .before .before .before .before .args .file .now) (sym (c .before .before .before .before .before .read .ensures) ∙ c .before .before .before .t .given .1) (c .before .before .before .before .before .before .before .args .task) (omega (arith, c .if1 .taken, c .before .count .ensures))
 
 read-requires : tie.Need-read-requires
 read-requires c κs = search needs
@@ -22,36 +19,21 @@ enum-known-t c = search needs
 count-requires : tie.Need-count-requires
 count-requires c κs = search needs
 
-mul-entry : tie.Need-mul-entry
-mul-entry c = search needs
-
-add-entry : tie.Need-add-entry
-add-entry c = search needs
-
-number-at-requires : tie.Need-number-at-requires
-number-at-requires c κs = omega (arith, inside c .entry)
-
-wide-count-requires : tie.Need-wide-count-requires
-wide-count-requires c κs = search needs
-
-add-number-at : tie.Need-add-number-at
-add-number-at c = search needs
-
-number-at-requires-2 : tie.Need-number-at-requires-2
-number-at-requires-2 c κs = omega (arith, inside (c .before .before) .entry)
-
-wide-count-requires-2 : tie.Need-wide-count-requires-2
-wide-count-requires-2 c κs = search needs
+entry-requires : tie.Need-entry-requires
+entry-requires c κs =
+    let start = c .before .before .before .before .before .before .before in
+    let e = sym (c .before .before .before .before .before .read .ensures) ∙ c .before .before .before .t .given .1 in
+    (ap accepted e, body-inside (start .args .file .now) e (start .args .task) (omega (arith, c .if1 .taken, c .before .count .ensures)) .below)
 
 returns : tie.Need-returns
 returns c = place-refused (c .before .before .before .before .args .file .now) (c .before .before .before .before .args .task) (sym (c .before .before .read .ensures) ∙ c .enum-told .given .1)
 
 returns-2 : tie.Need-returns-2
 returns-2 c =
-    let start = c .before .before .before .before .before .before .before .before .before .before .before in
-    let then = c .before .before .before .before in
-    place-there (start .args .file .now) (start .args .task) (sym (c .before .before .before .before .before .before .before .before .before .read .ensures) ∙ c .before .before .before .before .before .before .before .t .given .1)
-    (omega (arith, then .if1 .taken, c .before .before .before .before .before .count .ensures)) (c .before .before .wide-count .ensures .0 ∙ c .before .before .before .number-at .ensures) (c .wide-count2 .ensures .0 ∙ c .before .number-at2 .ensures)
+    let then = c .before in
+    let start = then .before .before .before .before .before .before .before in
+    place-there (start .args .file .now) (start .args .task) (sym (then .before .before .before .before .before .read .ensures) ∙ then .before .before .before .t .given .1)
+    (omega (arith, then .if1 .taken, then .before .count .ensures)) (c .entry .ensures .0) (c .entry .ensures .1)
 
 returns-3 : tie.Need-returns-3
 returns-3 c =
@@ -66,13 +48,7 @@ place-spec =
     enum-told
     enum-known-t
     count-requires
-    mul-entry
-    add-entry
-    number-at-requires
-    wide-count-requires
-    add-number-at
-    number-at-requires-2
-    wide-count-requires-2
+    entry-requires
     returns
     returns-2
     returns-3)

@@ -8,8 +8,8 @@ use lib.ListN.{length, take}
 use borrow.Author.Needs.{needs}
 use Rattle.cache.proofs.Numbers.{length-numbers}
 use Rattle.cache.specs.References.{numbers}
-use Rattle.project.specs.Seen.{seenTable}
-use Rattle.project.proofs.SeenLaws.{marked-more}
+use Rattle.seen.specs.Seen.{seenTable}
+use Rattle.project.proofs.SharingLaws.{marked-more}
 use Rattle.project.proofs.sharing.mark_all.Statement.{statement}
 use Rattle.project.proofs.sharing.mark_all.Tie as tie
 
@@ -33,8 +33,11 @@ number-at-requires c κs = search needs
 new-requires : tie.Need-new-requires Inv-loop μ-loop
 new-requires c κs = search needs
 
-mark-seen-requires : tie.Need-mark-seen-requires Inv-loop μ-loop
-mark-seen-requires c κs = search needs
+number-requires : tie.Need-number-requires Inv-loop μ-loop
+number-requires c κs = search needs
+
+mark-requires : tie.Need-mark-requires Inv-loop μ-loop
+mark-requires c κs = search needs
 
 add-i : tie.Need-add-i Inv-loop μ-loop
 add-i c = search needs
@@ -44,10 +47,10 @@ loop-less c = search needs
 
 loop-again : tie.Need-loop-again Inv-loop μ-loop
 loop-again c =
-    let at = c .before .before .before .before .before .loop in
-    let s = c .before .before .before .before .before .before .before .args .references .now in (
+    let at = c .before .before .before .before .before .before .loop in
+    let s = c .before .before .before .before .before .before .before .before .args .references .now in (
       omega arith,
-      λ ms e. marked-more s (at .i) (omega arith) ms (c .before .new .ensures ∙ c .before .before .number-at .ensures) (c .mark-seen .ensures (ms ++ take (at .i) (numbers s)) (at .inv .1 ms e)),
+      λ ms e. marked-more s (at .i) (omega arith) ms (c .before .number .ensures ∙ c .before .before .before .new .ensures ∙ c .before .before .before .before .number-at .ensures) (c .mark .ensures (ms ++ take (at .i) (numbers s)) (at .inv .1 ms e)),
     )
 
 returns : tie.Need-returns Inv-loop μ-loop
@@ -67,7 +70,8 @@ mark-all-spec =
     mul-number-at
     number-at-requires
     new-requires
-    mark-seen-requires
+    number-requires
+    mark-requires
     add-i
     loop-less
     loop-again

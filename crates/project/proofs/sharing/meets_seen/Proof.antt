@@ -8,8 +8,8 @@ use borrow.Author.Needs.{needs}
 use Rattle.cache.proofs.Numbers.{length-numbers}
 use Rattle.cache.specs.References.{numbers}
 use Rattle.project.specs.Reading.{meets}
-use Rattle.project.specs.Seen.{seenTable}
-use Rattle.project.proofs.SeenLaws.{meets-skip, meets-found}
+use Rattle.seen.specs.Seen.{seenTable}
+use Rattle.project.proofs.SharingLaws.{meets-skip, meets-found}
 use Rattle.project.proofs.sharing.meets_seen.Statement.{statement}
 use Rattle.project.proofs.sharing.meets_seen.Tie as tie
 
@@ -33,14 +33,17 @@ number-at-requires c κs = search needs
 new-requires : tie.Need-new-requires Inv-loop μ-loop
 new-requires c κs = search needs
 
+number-requires : tie.Need-number-requires Inv-loop μ-loop
+number-requires c κs = search needs
+
 seen-requires : tie.Need-seen-requires Inv-loop μ-loop
 seen-requires c κs = search needs
 
 returns : tie.Need-returns Inv-loop μ-loop
 returns c =
-    let at = c .before .before .before .before .before .loop in
-    let s = c .before .before .before .before .before .before .before .args .references .now in
-    λ ms e. sym (meets-found s (at .i) (omega arith) ms (c .before .before .new .ensures ∙ c .before .before .before .number-at .ensures) (sym (c .before .seen .ensures ms e) ∙ c .if1 .taken)) ∙ at .inv .1 ms e
+    let at = c .before .before .before .before .before .before .loop in
+    let s = c .before .before .before .before .before .before .before .before .args .references .now in
+    λ ms e. sym (meets-found s (at .i) (omega arith) ms (c .before .before .number .ensures ∙ c .before .before .before .new .ensures ∙ c .before .before .before .before .number-at .ensures) (sym (c .before .seen .ensures ms e) ∙ c .if1 .taken)) ∙ at .inv .1 ms e
 
 add-i : tie.Need-add-i Inv-loop μ-loop
 add-i c = search needs
@@ -50,10 +53,10 @@ loop-less c = search needs
 
 loop-again : tie.Need-loop-again Inv-loop μ-loop
 loop-again c =
-    let at = c .before .before .before .before .before .loop in
-    let s = c .before .before .before .before .before .before .before .args .references .now in (
+    let at = c .before .before .before .before .before .before .loop in
+    let s = c .before .before .before .before .before .before .before .before .args .references .now in (
       omega arith,
-      λ ms e. meets-skip s (at .i) (omega arith) ms (c .before .before .new .ensures ∙ c .before .before .before .number-at .ensures) (sym (c .before .seen .ensures ms e) ∙ c .if1 .left) ∙ at .inv .1 ms e,
+      λ ms e. meets-skip s (at .i) (omega arith) ms (c .before .before .number .ensures ∙ c .before .before .before .new .ensures ∙ c .before .before .before .before .number-at .ensures) (sym (c .before .seen .ensures ms e) ∙ c .if1 .left) ∙ at .inv .1 ms e,
     )
 
 returns-2 : tie.Need-returns-2 Inv-loop μ-loop
@@ -73,6 +76,7 @@ meets-seen-spec =
     mul-number-at
     number-at-requires
     new-requires
+    number-requires
     seen-requires
     returns
     add-i

@@ -8,7 +8,7 @@ use Rattle.cache.specs.References.{numbers}
 use Rattle.model.specs.Tasks.{memoryBlocks}
 use Rattle.body.specs.Decode.{decode, taskOf}
 use Rattle.project.specs.Reading.{meets}
-use Rattle.project.specs.Seen.{seenTable}
+use Rattle.seen.specs.Seen.{seenTable}
 use Rattle.reader.proofs.TaskLaws.{WalkedBody, walked-body, meets-pass, meets-found, meets-end}
 use Rattle.reader.proofs.tasks.body_meets.Statement.{statement}
 use Rattle.reader.proofs.tasks.body_meets.Tie as tie

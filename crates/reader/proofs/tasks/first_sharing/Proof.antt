@@ -10,8 +10,8 @@ use Rattle.body.specs.Decode.{decode, taskOf}
 use Rattle.project.specs.declared.answers.Check.the-variants.{Refused as Failed}
 use Rattle.project.specs.Reading.{sharing}
 use Rattle.project.specs.Ends.{between}
-use Rattle.project.specs.Seen.{seenTable}
-use Rattle.project.proofs.SeenLaws.{seen-none}
+use Rattle.seen.specs.Seen.{seenTable}
+use Rattle.seen.proofs.SeenLaws.{seen-none}
 use Rattle.reader.proofs.TaskLaws.{partAt, order-rise, order-within, sharing-pass, sharing-fail, sharing-start, sharing-end}
 use Rattle.reader.proofs.tasks.first_sharing.Statement.{statement}
 use Rattle.reader.proofs.tasks.first_sharing.Tie as tie

@@ -7,7 +7,7 @@ use lib.ListN.{drop}
 use Rattle.cache.specs.References.{numbers}
 use Rattle.model.specs.Tasks.{Block, block, memoryBlocks}
 use Rattle.body.specs.Decode.{decode, taskOf}
-use Rattle.project.specs.Seen.{seenTable}
+use Rattle.seen.specs.Seen.{seenTable}
 use Rattle.reader.proofs.TaskLaws.{WalkedBody, walked-body, mark-pass, mark-end}
 use Rattle.reader.proofs.tasks.mark_body.Statement.{statement}
 use Rattle.reader.proofs.tasks.mark_body.Tie as tie

@@ -1,0 +1,4 @@
+pub mod Listed
+pub mod Prepared
+pub mod Turning
+pub mod Gathered

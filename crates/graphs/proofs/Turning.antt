@@ -1,0 +1,79 @@
+-- Sets turned round: a turn of the loop that makes them, and that the jump sets of a task turned round are its sets of predecessors.
+-- The idea: a block that is not there has no successors, and is no successor.
+use mathlib.Core.Path.{_≡_, refl, sym, ap, ap₂, _∙_}
+use mathlib.Core.Bool.{Bool, false}
+use mathlib.Core.List.{List, _∷_, _++_}
+use Prim.Native.Nat.{ℕ, zero, suc, _+_, _-_, _≤_, _<_}
+use native.Mathlib.Nat.{add-zero, add-suc, suc-add, zero-add}
+use native.Mathlib.Numerals.{add-one}
+use native.Mathlib.Omega.{arith}
+use lib.Dec.{eqb}
+use lib.ListN.{length, getD, set, replicate}
+use Rattle.cache.specs.Cache.{rowFrom}
+use Rattle.cache.specs.Sets.{bits}
+use Rattle.cache.proofs.Masks.{bits-cong, bits-none}
+use Rattle.model.specs.Lists.{mem}
+use Rattle.model.specs.Tasks.{Task, block}
+use Rattle.model.proofs.Paths.{successor-below}
+use Rattle.body.specs.Layout.{InBounds}
+use Rattle.body.specs.Jumps.{jumpSets}
+use Rattle.body.proofs.Sweeps.{jump-at, jumps-inside}
+use Rattle.gather.specs.Graph.{inSet}
+use Rattle.gather.proofs.Distinct.{not-true}
+use Rattle.graphs.specs.Graphs.{predecessorSet, predecessorSets}
+use Rattle.graphs.specs.Turned.{leadingTo, turned}
+use Rattle.graphs.proofs.Listed.{in-setOf}
+
+-- ---- the loop
+
+-- the numbers up to s, and zeros up to 24
+abbrev pub madeTo : (ℕ → ℕ) → ℕ → List ℕ
+madeTo f s = rowFrom 0 s f ++ replicate (24 - s) 0
+
+stored : (f : ℕ → ℕ) (c s k : ℕ) → set (rowFrom c s f ++ replicate (suc k) 0) s (f (c + s)) ≡ rowFrom c (suc s) f ++ replicate k 0
+stored f c zero k = ap (λ i. f i ∷ replicate k 0) (add-zero c)
+stored f c (suc s) k = ap (λ l. f c ∷ l) (ap (λ i. set (rowFrom (suc c) s f ++ replicate (suc k) 0) s (f i)) (add-suc c s ∙ sym (suc-add c s)) ∙ stored f (suc c) s k)
+
+pub made-turn : (f : ℕ → ℕ) (s : ℕ) {l now : List ℕ} {x : ℕ} → s < 24 → l ≡ madeTo f s → x ≡ f s → now ≡ set l s x → now ≡ madeTo f (s + 1)
+made-turn f s h el ex en =
+    let e : 24 - s ≡ suc (24 - suc s) = omega arith in
+    en ∙ rw (el, ex, add-one s, e) (ap (λ i. set (rowFrom 0 s f ++ replicate (suc (24 - suc s)) 0) s (f i)) (sym (zero-add s)) ∙ stored f 0 s (24 - suc s))
+
+-- ---- sets of predecessors
+
+-- a wider set has the same members where none is added
+wider : (w k : ℕ) (P : ℕ → Bool) → ((c : ℕ) → w ≤ c → P c ≡ false) → bits (k + w) P ≡ bits w P
+unfolding bits
+wider w zero P h = ap (λ i. bits i P) (zero-add w)
+wider w (suc k) P h = ap (λ i. bits i P) (suc-add k w) ∙ rw (h (k + w) (omega arith)) (omega (arith, wider w k P h))
+
+-- the sets of the blocks that are there, and zeros for the others
+listed : (t : Task) (f : ℕ → ℕ) (s w k : ℕ) → ((i : ℕ) → s ≤ i → i < s + w → predecessorSet t i ≡ f i) → ((i : ℕ) → s + w ≤ i → predecessorSet t i ≡ 0)
+    → predecessorSets t (w + k) s ≡ rowFrom s w f ++ replicate k 0
+listed t f s zero zero h z = refl
+listed t f s zero (suc k) h z =
+    rw (zero-add (suc k)) (ap₂ (λ x l. x ∷ l) (z s (omega arith)) (ap (λ i. predecessorSets t i (suc s)) (sym (zero-add k)) ∙ listed t f (suc s) zero k (λ i l m. h i (omega arith) (omega arith)) (λ i l. z i (omega arith))))
+listed t f s (suc w) k h z =
+    rw (suc-add w k) (ap₂ (λ x l. x ∷ l) (h s (omega arith) (omega arith)) (listed t f (suc s) w k (λ i l m. h i (omega arith) (omega arith)) (λ i l. z i (omega arith))))
+
+pub turned-predecessors : (t : Task) (blocks : ℕ) (sets : List ℕ) → InBounds t → length t ≡ blocks → sets ≡ jumpSets t → turned sets blocks ≡ predecessorSets t 24 0
+turned-predecessors t blocks sets bounds e q =
+    let all : blocks + (24 - blocks) ≡ 24 = omega (arith, bounds .few) in
+    sym (listed t (leadingTo sets blocks) 0 blocks (24 - blocks) (λ i l m. here i (omega arith)) (λ i l. none i (omega arith))) ∙ ap (λ k. predecessorSets t k 0) all
+  where
+    leads : (i b : ℕ) → i < blocks → b < blocks → mem eqb i (block t b .successors) ≡ inSet (getD sets b 0) i
+    leads i b hi hb =
+        sym (ap (λ l. inSet (getD l b 0) i) q ∙ ap (λ x. inSet x i) (jump-at t (replicate (24 - length t) 0) b (omega arith)) ∙ in-setOf (block t b .successors) i (omega (arith, bounds .few)))
+
+    here : (i : ℕ) → i < blocks → predecessorSet t i ≡ leadingTo sets blocks i
+    here i hi =
+        let P : ℕ → Bool = λ b. mem eqb i (block t b .successors) in
+        let all : 24 ≡ (24 - blocks) + blocks = omega (arith, bounds .few) in
+        ap (λ k. bits k P) all
+        ∙ wider blocks (24 - blocks) P (λ b l. not-true (P b) (λ m. absurd (omega (arith, successor-below t b i m))))
+        ∙ bits-cong blocks P (λ b. inSet (getD sets b 0) i) (λ b l. leads i b hi l)
+
+    none : (i : ℕ) → blocks ≤ i → predecessorSet t i ≡ 0
+    none i hi =
+        let P : ℕ → Bool = λ b. mem eqb i (block t b .successors) in
+        bits-none 24 P (λ b l. not-true (P b) (λ m. absurd (omega (arith, jumps-inside t bounds b i m))))

@@ -1,0 +1,4 @@
+// The graphs along which the states of a task are gathered.
+pub mod predecessors;
+pub mod prepare;
+pub mod task_rows;

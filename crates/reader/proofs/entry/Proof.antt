@@ -1,0 +1,53 @@
+-- `entry` meets its contract: the contents of an accepted file lie in it and say where each body stands. Assumes nothing.
+use mathlib.Core.Path.{_∙_}
+use native.Mathlib.Omega.{arith}
+use Rattle.reader.proofs.ReadLaws.{InFile}
+use Rattle.reader.proofs.TaskBodies.{task-body}
+use borrow.Author.Needs.{needs}
+use Rattle.reader.proofs.entry.Statement.{statement}
+use Rattle.reader.proofs.entry.Tie as tie
+
+-- the task is one of an accepted file
+inside : (c : tie.Start) → InFile (c .args .file .now) (c .args .task)
+inside c = task-body (c .args .file .now) (c .pre .0) (c .args .task) (c .pre .1) .inFile
+
+mul-at : tie.Need-mul-at
+mul-at c = omega (arith, inside (c .before) .below, inside (c .before) .few)
+
+add-at : tie.Need-add-at
+add-at c = omega (arith, inside (c .before) .below, inside (c .before) .few)
+
+number-at-requires : tie.Need-number-at-requires
+number-at-requires c κs = omega (arith, inside (c .before) .entry)
+
+wide-count-requires : tie.Need-wide-count-requires
+wide-count-requires c κs = search needs
+
+add-number-at : tie.Need-add-number-at
+add-number-at c = omega (arith, inside (c .before .before .before) .below, inside (c .before .before .before) .few)
+
+number-at-requires-2 : tie.Need-number-at-requires-2
+number-at-requires-2 c κs = omega (arith, inside (c .before .before .before) .entry)
+
+wide-count-requires-2 : tie.Need-wide-count-requires-2
+wide-count-requires-2 c κs = search needs
+
+returns : tie.Need-returns
+returns c =
+    let start = c .before .before .before .before .before in
+    let from = c .before .before .wide-count .ensures .0 ∙ c .before .before .before .number-at .ensures in
+    let long = c .wide-count2 .ensures .0 ∙ c .before .number-at2 .ensures in
+    (from, long, omega (arith, from, long, inside start .ending))
+
+pub entry-spec : {M : Type 1} → statement M
+entry-spec =
+    tie.close
+    (tie.spec
+    mul-at
+    add-at
+    number-at-requires
+    wide-count-requires
+    add-number-at
+    number-at-requires-2
+    wide-count-requires-2
+    returns)

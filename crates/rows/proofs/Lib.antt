@@ -1,0 +1,4 @@
+pub mod Overlay
+pub mod Overlays
+pub mod Parts
+pub mod Answers
