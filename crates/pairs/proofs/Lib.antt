@@ -1,0 +1,4 @@
+pub mod Distinct
+pub mod UsedSets
+pub mod Meeting
+pub mod PairNumbers

@@ -1,0 +1,65 @@
+-- Document 01, "Paths and cache": the sets of cache blocks useful in and used by tasks, and the most that they have in common. Definitions only.
+use mathlib.Core.Path.{_≡_}
+use mathlib.Core.Bool.{cond}
+use mathlib.Core.List.{List, [], _∷_, _++_, map}
+use Prim.Native.Nat.{ℕ, zero, suc, _*_, _≤_, _<_, max}
+use lib.Dec.{eqb}
+use lib.ListN.{length, getD, take, drop}
+use lib.Bits.{bitAnd}
+use lib.Count.{ones}
+use Rattle.cache.specs.Sets.{useful, used, bits}
+use Rattle.model.specs.Lists.{mem, best}
+use Rattle.seen.specs.Seen.{seenTable}
+
+-- the used set of a row, and the useful set of a reaching and a live row
+abbrev pub usedSet : List ℕ → ℕ
+usedSet row = bits 16 (used row)
+
+abbrev pub usefulSet : List ℕ → List ℕ → ℕ
+usefulSet reaching live = bits 16 (useful reaching live)
+
+-- each number once, in the order in which they first come, after those of `acc`
+abbrev pub distinct : List ℕ → List ℕ → List ℕ
+distinct acc [] = acc
+distinct acc (x ∷ xs) = distinct (cond (mem eqb x acc) acc (acc ++ (x ∷ []))) xs
+
+-- the most cache blocks that a set has in common with one of some sets
+abbrev pub mostCommon : ℕ → List ℕ → ℕ
+mostCommon u vs = best (λ (v : ℕ). ones (bitAnd u v)) vs
+
+-- the useful sets of a reaching row with each live row, and of all rows of a block
+abbrev pub rowUseful : List ℕ → List (List ℕ) → List ℕ
+rowUseful r ls = map (usefulSet r) ls
+
+abbrev pub blockUseful : List (List ℕ) → List (List ℕ) → List ℕ
+blockUseful [] ls = []
+blockUseful (r ∷ rs) ls = rowUseful r ls ++ blockUseful rs ls
+
+-- the useful sets of `left` blocks from b on, given the reaching and the live rows of each block
+abbrev pub taskUseful : (ℕ → List (List ℕ)) → (ℕ → List (List ℕ)) → ℕ → ℕ → List ℕ
+taskUseful rs ls zero b = []
+taskUseful rs ls (suc left) b = blockUseful (rs b) (ls b) ++ taskUseful rs ls left (suc b)
+
+-- the used sets of task j in one list for all tasks: they stand from 32 j on, as many as its count
+abbrev pub usedOf : List ℕ → List ℕ → ℕ → List ℕ
+usedOf sets counts j = take (getD counts j 0) (drop (32 * j) sets)
+
+-- one list for at most 8 tasks, with at most 32 used sets for each
+pub record UsedSets (sets counts : List ℕ) (tasks : ℕ) : Type 0 where
+  pub long : length sets ≡ 256
+  pub many : length counts ≡ 8
+  pub few : (j : ℕ) → j < 8 → getD counts j 0 ≤ 32
+  pub inside : tasks ≤ 8
+
+-- what the numbers of a task become when the sets us are met by the used sets of each task below `tasks`
+pub record Met (us sets counts : List ℕ) (tasks : ℕ) (old new : List ℕ) : Type 0 where
+  pub long : length new ≡ length old
+  pub each : (j : ℕ) → j < tasks → getD new j 0 ≡ max (getD old j 0) (best (λ (u : ℕ). mostCommon u (usedOf sets counts j)) us)
+  pub rest : (j : ℕ) → tasks ≤ j → getD new j 0 ≡ getD old j 0
+
+-- the sets us are met, each once: where the table has the sets ms and the numbers are what these made of `old`, the table then has
+-- the sets of both, and the numbers are what those make of `old`
+abbrev pub MetOnce : List ℕ → List ℕ → List ℕ → ℕ → List ℕ → List ℕ → List ℕ → List ℕ → Type 0
+MetOnce us sets counts tasks table numbers table' numbers' =
+    (ms old : List ℕ) → table ≡ seenTable ms → Met ms sets counts tasks old numbers
+    → (table' ≡ seenTable (distinct ms us)) × Met (distinct ms us) sets counts tasks old numbers'

@@ -1,0 +1,40 @@
+// The used sets of a task: those of the rows with which it ends, each once.
+ghost use mathlib.Core.Path.{_≡_};
+ghost use mathlib.Core.List.{[], map};
+ghost use Prim.Native.Nat.{_≤_};
+ghost use lib.Dec.{eqb};
+ghost use lib.ListN.{length, take};
+ghost use Rattle.model.specs.Lists.{mem};
+ghost use Rattle.rows.specs.Rows.{rowsOf};
+ghost use Rattle.pairs.specs.Pairs.{usedSet, distinct};
+use cache::sets::used;
+
+// Whether the set is among the first `count` sets.
+fn holds_set(sets: &[u32], count: usize, set: u32) -> bool
+    requires { ⌜ count ≤ length (now sets) ⌝ }
+    ensures { λ r. ⌜ r ≡ mem eqb set (take count (now (sets .entry))) ⌝ }
+{
+    for k in 0..count {
+        if set == sets[k] {
+            return true;
+        }
+    }
+    false
+}
+
+// The used sets of the first `count` rows of the part, each once, in the order in which they first come; answers how many they are.
+pub fn used_sets(part: &[u16], count: usize, sets: &mut [u32]) -> usize
+    requires { ⌜ (count ≤ 32) × (length (now part) ≡ 512) × (length (now sets) ≡ 32) ⌝ }
+    ensures { λ r. ⌜ (r ≤ 32) × (length (now (sets .exit)) ≡ 32)
+        × (take r (now (sets .exit)) ≡ distinct [] (map usedSet (rowsOf 16 count (now (part .entry))))) ⌝ }
+{
+    let mut found: usize = 0;
+    for k in 0..count {
+        let set = used(&part[16 * k..16 * k + 16]);
+        if !holds_set(sets, found, set) {
+            sets[found] = set;
+            found += 1;
+        }
+    }
+    found
+}

@@ -1,0 +1,4 @@
+pub mod UsedLaws
+pub mod NumberLaws
+pub mod TableLaws
+pub mod Answers

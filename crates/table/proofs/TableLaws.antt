@@ -1,0 +1,203 @@
+-- The table of an accepted file, filled row by row: what holds while it is filled, a turn of the loop, and both ends.
+-- The idea: a turn writes the row of its task and leaves the others; at the end no task has too many states, so each number is a pair number.
+use mathlib.Core.Path.{_≡_, refl, sym, ap, ap₂, _∙_}
+use mathlib.Core.Logic.{_≢_}
+use mathlib.Core.Bool.{Bool, true, false, cond}
+use mathlib.Core.List.{List, [], _++_}
+use Prim.Native.Nat.{ℕ, zero, suc, _+_, _*_, _-_, _/_, _%_, _≤_, _<_}
+use native.Mathlib.Nat.{not-suc-le-zero, zero-add, add-zero}
+use native.Mathlib.Numerals.{add-one}
+use native.Mathlib.Omega.{arith}
+use lib.Dec.{eqb, ltb}
+use lib.ListN.{length, getD, set, take, drop, replicate, length-set, length-replicate, length-append, length-drop, drop-of-length-le, List·getD-append}
+use lib.Seq.{getD-set-same, getD-set-other, ext-getD, drop-cons, getD-append-add, getD-take, getD-drop, length-take-le}
+use borrow.Author.Tests.{eqb-true, eqb-false, ltb-true, ltb-false, lt-ltb, le-ltb, ne-eqb}
+use borrow.Rule.Slice.PartMut.{putMid}
+use Rattle.cache.specs.Cache.{wide}
+use Rattle.model.specs.Tasks.{Task, task}
+use Rattle.model.specs.Computed.{reaching, living}
+use Rattle.model.proofs.Membership.{eqb-self}
+use Rattle.project.specs.declared.answers.Check.{Check}
+use Rattle.project.specs.declared.answers.Check.the-variants.{Passed}
+use Rattle.project.specs.declared.answers.Check.the-variants.{Refused as Failed}
+use Rattle.project.specs.File.{cacheBlocks, taskCount}
+use Rattle.project.specs.Tasks.{tasksOf}
+use Rattle.project.proofs.Accepted.{or-false-left}
+use Rattle.reader.proofs.TaskBodies.{tasks-long}
+use Rattle.rows.proofs.Parts.{replaced-length, before-it, inside-it, after-it, lent-back}
+use Rattle.gather.specs.Graph.{tooMany}
+use Rattle.graphs.specs.TaskRows.{test11}
+use Rattle.table.specs.Table.{firstFull, entryOf, rowFrom, rowsFrom, tableOf}
+use Rattle.table.specs.Found.{Few, NumbersFound}
+
+-- ---- the places of a table
+
+row-long : (f : ℕ → ℕ → ℕ) (i left j : ℕ) → length (rowFrom f i left j) ≡ left
+row-long f i zero j = refl
+row-long f i (suc left) j = ap suc (row-long f i left (suc j))
+
+row-at : (f : ℕ → ℕ → ℕ) (i left j k : ℕ) → k < left → getD (rowFrom f i left j) k 0 ≡ f i (j + k)
+row-at f i zero j k l = absurd (not-suc-le-zero l)
+row-at f i (suc left) j zero l = ap (f i) (sym (add-zero j))
+row-at f i (suc left) j (suc k) l = let e : suc j + k ≡ j + suc k = omega arith in row-at f i left (suc j) k (omega arith) ∙ ap (f i) e
+
+rows-long : (f : ℕ → ℕ → ℕ) (left i : ℕ) → length (rowsFrom f left i) ≡ 8 * left
+rows-long f zero i = omega arith
+rows-long f (suc left) i = rw (length-append (rowFrom f i 8 0) (rowsFrom f left (suc i)), row-long f i 8 0, rows-long f left (suc i)) (omega arith)
+
+-- place 8 k + j of the rows from row i on
+pub place-at : (f : ℕ → ℕ → ℕ) (left i k j : ℕ) → k < left → j < 8 → getD (rowsFrom f left i) (8 * k + j) 0 ≡ f (i + k) j
+place-at f zero i k j l h = absurd (not-suc-le-zero l)
+place-at f (suc left) i zero j l h =
+    let e : 8 * 0 + j ≡ j = omega arith in
+    rw e (List·getD-append (rowFrom f i 8 0) (rowsFrom f left (suc i)) 0 j (rw (row-long f i 8 0) h) ∙ row-at f i 8 0 j h ∙ ap₂ f (sym (add-zero i)) (omega arith))
+place-at f (suc left) i (suc k) j l h =
+    let e : 8 * suc k + j ≡ length (rowFrom f i 8 0) + (8 * k + j) = rw (row-long f i 8 0) (omega arith) in
+    let z : suc i + k ≡ i + suc k = omega arith in
+    rw e (getD-append-add (rowFrom f i 8 0) (rowsFrom f left (suc i)) (8 * k + j) 0 ∙ place-at f left (suc i) k j (omega arith) h ∙ ap (λ (x : ℕ). f x j) z)
+
+pub table-long : (s : List ℕ) → length (tableOf s) ≡ 64
+unfolding tableOf
+table-long s = rows-long (entryOf s) 8 0
+
+-- ---- while the table is filled
+
+pub record SoFar (s : List ℕ) (n i : ℕ) (numbers : List ℕ) : Type 0 where
+  pub long : length numbers ≡ 64
+  pub left : firstFull 16 n i (drop i (tasksOf s)) ≡ firstFull 16 n 0 (tasksOf s)
+  pub passed : (k : ℕ) → k < i → test11 16 n (task (tasksOf s) k) ≡ false
+  pub rows : (k j : ℕ) → k < i → j < 8 → (j < taskCount s → Few n (task (tasksOf s) j)) → getD numbers (8 * k + j) 0 ≡ entryOf s k j
+  pub rest : (x : ℕ) → 8 * i ≤ x → getD numbers x 0 ≡ 0
+
+zeros : (k i : ℕ) → getD {A = ℕ} (replicate k 0) i 0 ≡ 0
+zeros zero i = refl
+zeros (suc k) zero = refl
+zeros (suc k) (suc i) = zeros k i
+
+pub at-first : (s : List ℕ) (n : ℕ) {numbers : List ℕ} → numbers ≡ replicate 64 0 → SoFar s n 0 numbers
+at-first s n z =
+    record {
+      long = ap length z ∙ length-replicate {A = ℕ} 64 0;
+      left = refl;
+      passed = λ k l. absurd (not-suc-le-zero l);
+      rows = λ k j l. absurd (not-suc-le-zero l);
+      rest = λ x l. rw z (zeros 64 x);
+    }
+
+-- what was found, in other words
+pub found-as : {n tasks count : ℕ} {ts : List Task} {u v : Task} {numbers : List ℕ} {full : Bool} → tasks ≡ count → u ≡ v → NumbersFound n ts tasks u numbers full → NumbersFound n ts count v numbers full
+found-as e f h = rw (← e, ← f) h
+
+module _ (s : List ℕ) (n i : ℕ) (same : n ≡ cacheBlocks s) (below : i < taskCount s) (few : taskCount s ≤ 8) (numbers : List ℕ) (h : SoFar s n i numbers) where
+  abbrev t : Task
+  t = task (tasksOf s) i
+
+  next : firstFull 16 n i (drop i (tasksOf s)) ≡ cond (test11 16 n t) (Failed 11 i) (firstFull 16 n (i + 1) (drop (i + 1) (tasksOf s)))
+  next =
+      ap (firstFull 16 n i) (drop-cons (tasksOf s) i [] (rw (tasks-long s) below))
+      ∙ ap (λ (k : ℕ). cond (test11 16 n t) (Failed 11 i) (firstFull 16 n k (drop k (tasksOf s)))) (sym (add-one i))
+
+  -- a task with too many states is the lowest
+  pub stops : {full : Bool} {byte : ℕ} → full ≡ test11 16 n t → full ≡ true → byte ≡ i → Failed 11 byte ≡ firstFull 16 n 0 (tasksOf s)
+  stops e q z = ap (Failed 11) z ∙ sym (rw (sym e ∙ q) at next) ∙ h .left
+
+  fits : 8 * i + 8 ≤ length numbers
+  fits = omega (arith, h .long)
+
+  -- the row of the task holds zeros
+  pub row-zeros : take (8 * i + 8 - 8 * i) (drop (8 * i) numbers) ≡ replicate 8 0
+  row-zeros =
+      let e : 8 * i + 8 - 8 * i ≡ 8 = omega arith in
+      rw e
+      (ext-getD 0 (take 8 (drop (8 * i) numbers)) (replicate 8 0) (eight ∙ sym (length-replicate {A = ℕ} 8 0))
+      (λ x l. let b : x < 8 = rw eight at l in getD-take 8 (drop (8 * i) numbers) x 0 b ∙ getD-drop (8 * i) numbers x 0 ∙ h .rest (8 * i + x) (omega arith) ∙ sym (zeros 8 x)))
+    where
+      eight : length (take 8 (drop (8 * i) numbers)) ≡ 8
+      eight = length-take-le 8 (drop (8 * i) numbers) (rw length-drop (omega (arith, fits)))
+
+  back : (part : List ℕ) → putMid (8 * i) (8 * i + 8 - 8 * i) numbers part ≡ take (8 * i) numbers ++ (part ++ drop (8 * i + 8) numbers)
+  back part = lent-back (8 * i) 8 numbers part
+
+  pub grown-long : (part : List ℕ) → length part ≡ 8 → length (putMid (8 * i) (8 * i + 8 - 8 * i) numbers part) ≡ 64
+  grown-long part e = ap length (back part) ∙ replaced-length numbers part (8 * i) 8 fits e ∙ h .long
+
+  module _ (part : List ℕ) {full : Bool} (new : NumbersFound n (tasksOf s) (taskCount s) t part full) (ok : full ≡ false) where
+    abbrev grown : List ℕ
+    grown = putMid (8 * i) (8 * i + 8 - 8 * i) numbers part
+
+    abbrev more : List ℕ
+    more = set grown (9 * i) 0
+
+    other : (x : ℕ) → x ≢ 9 * i → getD more x 0 ≡ getD (take (8 * i) numbers ++ (part ++ drop (8 * i + 8) numbers)) x 0
+    other x d = getD-set-other grown (9 * i) x 0 0 d ∙ ap (λ (l : List ℕ). getD l x 0) (back part)
+
+    earlier : (k j : ℕ) → k < i → j < 8 → getD more (8 * k + j) 0 ≡ getD numbers (8 * k + j) 0
+    earlier k j l b = other (8 * k + j) (λ e. omega arith) ∙ before-it numbers part (8 * i) 8 fits (new .long) (8 * k + j) (omega arith)
+
+    diagonal : getD more (8 * i + i) 0 ≡ entryOf s i i
+    diagonal =
+        let e : 8 * i + i ≡ 9 * i = omega arith in
+        rw (e, getD-set-same grown (9 * i) 0 0 (omega (arith, grown-long part (new .long))), eqb-self i, lt-ltb i (taskCount s) below)
+
+    here : (j : ℕ) → j < 8 → j ≢ i → (j < taskCount s → Few n (task (tasksOf s) j)) → getD more (8 * i + j) 0 ≡ entryOf s i j
+    here j b d f =
+        other (8 * i + j) (λ e. d (omega arith)) ∙ inside-it numbers part (8 * i) 8 fits (new .long) j b ∙ go (ltb j (taskCount s)) refl
+      where
+        go : (x : Bool) → ltb j (taskCount s) ≡ x → getD part j 0 ≡ entryOf s i j
+        go true e =
+            rw (lt-ltb i (taskCount s) below, e, ne-eqb i j (λ q. d (sym q)), ← same)
+            (new .found ok j (ltb-true j (taskCount s) e) (f (ltb-true j (taskCount s) e)))
+        go false e = rw (lt-ltb i (taskCount s) below, e) (new .rest ok j (ltb-false j (taskCount s) e))
+
+    row-is : (k j : ℕ) → k < i + 1 → j < 8 → (j < taskCount s → Few n (task (tasksOf s) j)) → getD more (8 * k + j) 0 ≡ entryOf s k j
+    row-is k j l b f = go (eqb k i) refl
+      where
+        own : (y : Bool) → eqb j i ≡ y → getD more (8 * i + j) 0 ≡ entryOf s i j
+        own true q = rw (eqb-true j i q) diagonal
+        own false q = here j b (eqb-false j i q) f
+
+        go : (x : Bool) → eqb k i ≡ x → getD more (8 * k + j) 0 ≡ entryOf s k j
+        go true e = rw (eqb-true k i e) (own (eqb j i) refl)
+        go false e = let m : k < i = omega (arith, eqb-false k i e) in earlier k j m b ∙ h .rows k j m b f
+
+    pub turn : SoFar s n (i + 1) more
+    turn =
+        record {
+          long = length-set grown (9 * i) 0 ∙ grown-long part (new .long);
+          left = sym (rw (sym (new .answer) ∙ ok) at next) ∙ h .left;
+          passed = λ k l. passes k l (eqb k i) refl;
+          rows = row-is;
+          rest = λ x l. other x (λ e. omega arith) ∙ after-it numbers part (8 * i) 8 fits (new .long) x (omega arith) ∙ h .rest x (omega arith);
+        }
+      where
+        passes : (k : ℕ) → k < i + 1 → (x : Bool) → eqb k i ≡ x → test11 16 n (task (tasksOf s) k) ≡ false
+        passes k l true e = rw (eqb-true k i e) (sym (new .answer) ∙ ok)
+        passes k l false e = h .passed k (omega (arith, eqb-false k i e))
+
+-- ---- at the end
+
+module _ (s : List ℕ) (n : ℕ) (few : taskCount s ≤ 8) (numbers : List ℕ) (h : SoFar s n (taskCount s) numbers) where
+  pub ends : Passed ≡ firstFull 16 n 0 (tasksOf s)
+  ends = sym (ap (firstFull 16 n (taskCount s)) (drop-of-length-le (tasksOf s) {i = taskCount s} (rw (tasks-long s) (omega arith)))) ∙ h .left
+
+  each-few : (j : ℕ) → j < taskCount s → Few n (task (tasksOf s) j)
+  each-few j l = or-false-left (tooMany (reaching (wide 16 n) (task (tasksOf s) j)) 24) (tooMany (living (wide 16 n) (task (tasksOf s) j)) 24) (h .passed j l)
+
+  pub whole : numbers ≡ tableOf s
+  unfolding tableOf
+  whole = ext-getD 0 numbers (tableOf s) (h .long ∙ sym (rows-long (entryOf s) 8 0)) (λ x l. at x (rw (h .long) at l))
+    where
+      absent : (k j : ℕ) → taskCount s ≤ k → 0 ≡ entryOf s k j
+      absent k j l = rw (le-ltb k (taskCount s) l)
+
+      cell : (k j : ℕ) → k < 8 → j < 8 → getD numbers (8 * k + j) 0 ≡ entryOf s k j
+      cell k j a b = go (ltb k (taskCount s)) refl
+        where
+          go : (x : Bool) → ltb k (taskCount s) ≡ x → getD numbers (8 * k + j) 0 ≡ entryOf s k j
+          go true e = h .rows k j (ltb-true k (taskCount s) e) b (each-few j)
+          go false e = let l = ltb-false k (taskCount s) e in h .rest (8 * k + j) (omega arith) ∙ absent k j l
+
+      at : (x : ℕ) → x < 64 → getD numbers x 0 ≡ getD (tableOf s) x 0
+      at x l =
+          let e : x ≡ 8 * (x / 8) + x % 8 = omega arith in
+          rw e (cell (x / 8) (x % 8) (omega arith) (omega arith) ∙ sym (place-at (entryOf s) 8 0 (x / 8) (x % 8) (omega arith) (omega arith) ∙ ap (λ (k : ℕ). entryOf s k (x % 8)) (zero-add (x / 8))))

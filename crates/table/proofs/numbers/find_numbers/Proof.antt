@@ -1,0 +1,197 @@
+-- `numbers::find_numbers` meets its contract. The loop's invariant: the rows of the tasks below i are written, and none of them has too many states. Assumes nothing.
+use mathlib.Core.Path.{_≡_, sym, ap, _∙_}
+use Prim.Native.Nat.{ℕ, _-_, _≤_}
+use native.Mathlib.Omega.{arith}
+use lib.ListN.{length, length-replicate}
+use Rattle.model.specs.Tasks.{task}
+use Rattle.project.specs.declared.answers.Check.the-variants.{Passed}
+use Rattle.project.specs.declared.answers.Check.the-variants.{Refused as Failed}
+use Rattle.project.specs.File.{taskCount}
+use Rattle.project.specs.Tasks.{tasksOf}
+use borrow.Author.Needs.{needs}
+use Rattle.reader.proofs.TaskBodies.{TaskBody, task-body, part-kept, part-task}
+use Rattle.table.specs.Found.{NumbersFound}
+use Rattle.table.proofs.TableLaws.{SoFar, at-first, found-as, row-zeros, stops, grown-long, turn, ends, whole}
+use Rattle.table.proofs.numbers.find_numbers.Statement.{statement}
+use Rattle.table.proofs.numbers.find_numbers.Tie as tie
+
+abbrev Inv-loop : tie.InvT-loop
+Inv-loop file n tasks area₀ sets counts numbers₀ i₀ area numbers i = (i ≤ tasks) × (length area ≡ 24832) × SoFar file n i numbers
+
+abbrev μ-loop : tie.MeasureT-loop
+μ-loop file n tasks area₀ sets counts numbers₀ i₀ area numbers i = tasks - i
+
+no-table : {a : ℕ} → Failed 11 a ≡ Passed → ⊥
+no-table e = let z : _≡_ {A = ℕ} 0 1 = cc in omega arith
+
+-- the task numbered i is one of the file
+the-task : (c : tie.In-loop Inv-loop μ-loop) → TaskBody (c .before .before .before .before .before .before .before .args .file .now) (c .before .loop .i)
+the-task c = task-body (c .before .before .before .before .before .before .before .args .file .now) (c .before .before .before .before .before .before .before .pre .0) (c .before .loop .i) (omega (arith, c .before .before .before .before .before .before .before .pre .2, c .before .loop .inv .0))
+
+-- what was found of it
+found : (c : tie.After-task-numbers Inv-loop μ-loop)
+    → NumbersFound (c .before .before .before .before .before .before .before .before .before .before .before .before .before .args .n) (tasksOf (c .before .before .before .before .before .before .before .before .before .before .before .before .before .args .file .now)) (taskCount (c .before .before .before .before .before .before .before .before .before .before .before .before .before .args .file .now)) (task (tasksOf (c .before .before .before .before .before .before .before .before .before .before .before .before .before .args .file .now)) (c .before .before .before .before .before .before .before .loop .i))
+    (c .task-numbers .last .1 .1 .1 .1 .1 .1 .0) (c .task-numbers .result)
+found c =
+    let start = c .before .before .before .before .before .before .before .before .before .before .before .before .before in
+    let at = c .before .before .before .before .before .before .before .loop in
+    let placed = c .before .before .before .before .before .entry .ensures in
+    found-as (start .pre .2) (part-task (start .args .file .now) (at .i) (the-task (c .before .before .before .before .before .before)) (placed .0) (placed .1))
+    (c .task-numbers .ensures .1 (tasksOf (start .args .file .now)) (start .pre .4))
+
+loop-holds : tie.Need-loop-holds Inv-loop μ-loop
+loop-holds c =
+    let start = c .before .before .before .before .before in
+    (omega arith, start .pre .3, at-first (start .args .file .now) (start .args .n) (start .pre .5))
+
+entry-requires : tie.Need-entry-requires Inv-loop μ-loop
+entry-requires c κs = search needs
+
+add-to : tie.Need-add-to Inv-loop μ-loop
+add-to c = search needs
+
+sub-task-numbers : tie.Need-sub-task-numbers Inv-loop μ-loop
+sub-task-numbers c = search needs
+
+part-task-numbers-start : tie.Need-part-task-numbers-start Inv-loop μ-loop
+part-task-numbers-start c = search needs
+
+part-task-numbers-end : tie.Need-part-task-numbers-end Inv-loop μ-loop
+part-task-numbers-end c = search needs
+
+mul-task-numbers : tie.Need-mul-task-numbers Inv-loop μ-loop
+mul-task-numbers c = search needs
+
+mul-task-numbers-2 : tie.Need-mul-task-numbers-2 Inv-loop μ-loop
+mul-task-numbers-2 c = search needs
+
+add-task-numbers : tie.Need-add-task-numbers Inv-loop μ-loop
+add-task-numbers c = search needs
+
+mul-task-numbers-3 : tie.Need-mul-task-numbers-3 Inv-loop μ-loop
+mul-task-numbers-3 c = search needs
+
+sub-task-numbers-2 : tie.Need-sub-task-numbers-2 Inv-loop μ-loop
+sub-task-numbers-2 c = search needs
+
+part-task-numbers-start-2 : tie.Need-part-task-numbers-start-2 Inv-loop μ-loop
+part-task-numbers-start-2 c = search needs
+
+part-task-numbers-end-2 : tie.Need-part-task-numbers-end-2 Inv-loop μ-loop
+part-task-numbers-end-2 c = search needs
+
+task-numbers-requires : tie.Need-task-numbers-requires Inv-loop μ-loop
+task-numbers-requires c κs =
+    let start = c .before .before .before .before .before .before .before .before .before .before .before .before in
+    let at = c .before .before .before .before .before .before .loop in
+    let placed = c .before .before .before .before .entry .ensures in
+    let t = the-task (c .before .before .before .before .before) in (
+      part-kept (start .args .file .now) (at .i) t (placed .0) (placed .1),
+      omega (arith, start .pre .1, t .low),
+      omega (arith, start .pre .1, t .high),
+      at .inv .1,
+      start .pre .4 .room,
+      row-zeros (start .args .file .now) (start .args .n) (at .i) (start .pre .1) (t .inFile .below) (t .inFile .few) (at .numbers) (at .inv .2),
+    )
+
+task-byte-requires : tie.Need-task-byte-requires Inv-loop μ-loop
+task-byte-requires c κs = search needs
+
+same-length : tie.Need-same-length Inv-loop μ-loop
+same-length c = search needs
+
+same-length-2 : tie.Need-same-length-2 Inv-loop μ-loop
+same-length-2 c =
+    let start = c .before .before .before .before .before .before .before .before .before .before .before .before .before .before .before .before .before .before .before in
+    let at = c .before .before .before .before .before .before .before .before .before .before .before .before .before .loop in
+    let t = the-task (c .before .before .before .before .before .before .before .before .before .before .before .before) in
+    grown-long (start .args .file .now) (start .args .n) (at .i) (start .pre .1) (t .inFile .below) (t .inFile .few) (at .numbers) (at .inv .2) (c .before .before .before .before .before .before .task-numbers .last .1 .1 .1 .1 .1 .1 .0) (found (c .before .before .before .before .before .before) .long)
+    ∙ sym (ap length (start .pre .5) ∙ length-replicate {A = ℕ} 64 0)
+
+returns : tie.Need-returns Inv-loop μ-loop
+returns c =
+    let start = c .before .before .before .before .before .before .before .before .before .before .before .before .before .before .before .before .before .before .before in
+    let at = c .before .before .before .before .before .before .before .before .before .before .before .before .before .loop in
+    let t = the-task (c .before .before .before .before .before .before .before .before .before .before .before .before) in
+    let e = stops (start .args .file .now) (start .args .n) (at .i) (start .pre .1) (t .inFile .below) (t .inFile .few) (at .numbers) (at .inv .2) (found (c .before .before .before .before .before .before) .answer) (c .before .if1 .taken) (c .task-byte .ensures) in
+    (c .before .before .before .before .before .before .task-numbers .ensures .0, e, λ q. absurd (no-table q))
+
+mul-numbers : tie.Need-mul-numbers Inv-loop μ-loop
+mul-numbers c = search needs
+
+mul-numbers-2 : tie.Need-mul-numbers-2 Inv-loop μ-loop
+mul-numbers-2 c = search needs
+
+slice-write-numbers : tie.Need-slice-write-numbers Inv-loop μ-loop
+slice-write-numbers c =
+    let start = c .before .before .before .before .before .before .before .before .before .before .before .before .before .before .before .before .before .before in
+    let at = c .before .before .before .before .before .before .before .before .before .before .before .before .loop in
+    let t = the-task (c .before .before .before .before .before .before .before .before .before .before .before) in
+    let z = grown-long (start .args .file .now) (start .args .n) (at .i) (start .pre .1) (t .inFile .below) (t .inFile .few) (at .numbers) (at .inv .2) (c .before .before .before .before .before .task-numbers .last .1 .1 .1 .1 .1 .1 .0) (found (c .before .before .before .before .before) .long) in
+    omega (arith, z, t .inFile .below, t .inFile .few)
+
+add-i : tie.Need-add-i Inv-loop μ-loop
+add-i c = search needs
+
+loop-less : tie.Need-loop-less Inv-loop μ-loop
+loop-less c = search needs
+
+loop-again : tie.Need-loop-again Inv-loop μ-loop
+loop-again c =
+    let start = c .before .before .before .before .before .before .before .before .before .before .before .before .before .before .before .before .before .before in
+    let at = c .before .before .before .before .before .before .before .before .before .before .before .before .loop in
+    let t = the-task (c .before .before .before .before .before .before .before .before .before .before .before) in (
+      omega arith,
+      c .before .before .before .before .before .task-numbers .ensures .0,
+      turn (start .args .file .now) (start .args .n) (at .i) (start .pre .1) (t .inFile .below) (t .inFile .few) (at .numbers) (at .inv .2) (c .before .before .before .before .before .task-numbers .last .1 .1 .1 .1 .1 .1 .0) (found (c .before .before .before .before .before)) (c .if1 .left),
+    )
+
+same-length-3 : tie.Need-same-length-3 Inv-loop μ-loop
+same-length-3 c = search needs
+
+same-length-4 : tie.Need-same-length-4 Inv-loop μ-loop
+same-length-4 c = search needs
+
+returns-2 : tie.Need-returns-2 Inv-loop μ-loop
+returns-2 c =
+    let start = c .before .before .before .before .before .before .before in
+    let at = c .before .loop in
+    let file = start .args .file .now in
+    let e : at .i ≡ taskCount file = omega (arith, start .pre .2) in
+    let few : taskCount file ≤ 8 = omega (arith, start .pre .2, start .pre .4 .room .inside) in
+    let h = rw e at (at .inv .2) in
+    (at .inv .1, ends file (start .args .n) few (at .numbers) h, λ q. whole file (start .args .n) few (at .numbers) h)
+
+pub find-numbers-spec : {M : Type 1} → statement M
+find-numbers-spec =
+    tie.close
+    (tie.spec
+    Inv-loop
+    μ-loop
+    loop-holds
+    entry-requires
+    add-to
+    sub-task-numbers
+    part-task-numbers-start
+    part-task-numbers-end
+    mul-task-numbers
+    mul-task-numbers-2
+    add-task-numbers
+    mul-task-numbers-3
+    sub-task-numbers-2
+    part-task-numbers-start-2
+    part-task-numbers-end-2
+    task-numbers-requires
+    task-byte-requires
+    same-length
+    same-length-2
+    returns
+    mul-numbers
+    mul-numbers-2
+    slice-write-numbers
+    add-i
+    loop-less
+    loop-again
+    same-length-3
+    same-length-4
+    returns-2)

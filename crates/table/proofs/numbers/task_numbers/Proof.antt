@@ -1,0 +1,108 @@
+-- `numbers::task_numbers` meets its contract: what was gathered are the states of the task, and their useful sets meet the used sets of each task. Assumes nothing.
+use mathlib.Core.Path.{ap, _∙_}
+use Prim.Native.Nat.{ℕ}
+use lib.ListN.{length, length-replicate}
+use Rattle.body.specs.Decode.{decode, taskOf}
+use Rattle.table.proofs.NumberLaws.{numbers-full, numbers-few, reaching-memory, live-memory}
+use borrow.Author.Needs.{needs}
+use Rattle.table.proofs.numbers.task_numbers.Statement.{statement}
+use Rattle.table.proofs.numbers.task_numbers.Tie as tie
+
+slice-aggregate-task-rows : tie.Need-slice-aggregate-task-rows
+slice-aggregate-task-rows c = search needs
+
+slice-aggregate-task-rows-2 : tie.Need-slice-aggregate-task-rows-2
+slice-aggregate-task-rows-2 c = search needs
+
+task-rows-requires : tie.Need-task-rows-requires
+task-rows-requires c κs = search needs
+
+same-length : tie.Need-same-length
+same-length c = search needs
+
+returns : tie.Need-returns
+returns c =
+    let start = c .before .before .before .before .before .before .before .before .before .before .before .before .before .before in
+    let gathered = c .before .before .before .before .before .task-rows .ensures in
+    (gathered .long, λ ts used. numbers-full (start .args .n) (taskOf (decode (start .args .body .now))) gathered ts (start .args .tasks) (c .if1 .taken) (start .pre .5))
+
+block-count-requires : tie.Need-block-count-requires
+block-count-requires c κs = search needs
+
+sub-meet-task : tie.Need-sub-meet-task
+sub-meet-task c = search needs
+
+part-meet-task-start : tie.Need-part-meet-task-start
+part-meet-task-start c = search needs
+
+part-meet-task-end : tie.Need-part-meet-task-end
+part-meet-task-end c = search needs
+
+slice-aggregate-meet-task : tie.Need-slice-aggregate-meet-task
+slice-aggregate-meet-task c = search needs
+
+sub-meet-task-2 : tie.Need-sub-meet-task-2
+sub-meet-task-2 c = search needs
+
+part-meet-task-start-2 : tie.Need-part-meet-task-start-2
+part-meet-task-start-2 c = search needs
+
+part-meet-task-end-2 : tie.Need-part-meet-task-end-2
+part-meet-task-end-2 c = search needs
+
+slice-aggregate-meet-task-2 : tie.Need-slice-aggregate-meet-task-2
+slice-aggregate-meet-task-2 c = search needs
+
+meet-task-requires : tie.Need-meet-task-requires
+meet-task-requires c κs =
+    let start = c .before .before .before .before .before .before .before .before .before .before .before .before .before .before .before .before .before .before .before .before .before in
+    let gathered = c .before .before .before .before .before .before .before .before .before .before .before .before .task-rows .ensures in
+    let few = c .before .before .before .before .before .before .before .if1 .left in
+    let t = taskOf (decode (start .args .body .now)) in (
+      c .before .before .before .before .before .before .block-count .ensures .2,
+      reaching-memory (start .args .n) t gathered few,
+      live-memory (start .args .n) t gathered few,
+      start .pre .4,
+      ap length (start .pre .5) ∙ length-replicate {A = ℕ} 8 0,
+    )
+
+same-length-2 : tie.Need-same-length-2
+same-length-2 c = search needs
+
+same-length-3 : tie.Need-same-length-3
+same-length-3 c = search needs
+
+returns-2 : tie.Need-returns-2
+returns-2 c =
+    let start = c .before .before .before .before .before .before .before .before .before .before .before .before .before .before .before .before .before .before .before .before .before .before .before .before in
+    let gathered = c .before .before .before .before .before .before .before .before .before .before .before .before .before .before .before .task-rows .ensures in
+    let few = c .before .before .before .before .before .before .before .before .before .before .if1 .left in
+    let blocks = c .before .before .before .before .before .before .before .before .before .block-count in
+    let t = taskOf (decode (start .args .body .now)) in (
+      gathered .long,
+      λ ts used. numbers-few (start .args .n) t gathered few ts (start .args .tasks) (blocks .result) (start .pre .1) (start .pre .2) (blocks .ensures .0) (blocks .ensures .2) (start .pre .5)
+          used (c .before .before .meet-task .ensures),
+    )
+
+pub task-numbers-spec : {M : Type 1} → statement M
+task-numbers-spec =
+    tie.close
+    (tie.spec
+    slice-aggregate-task-rows
+    slice-aggregate-task-rows-2
+    task-rows-requires
+    same-length
+    returns
+    block-count-requires
+    sub-meet-task
+    part-meet-task-start
+    part-meet-task-end
+    slice-aggregate-meet-task
+    sub-meet-task-2
+    part-meet-task-start-2
+    part-meet-task-end-2
+    slice-aggregate-meet-task-2
+    meet-task-requires
+    same-length-2
+    same-length-3
+    returns-2)

@@ -1,0 +1,57 @@
+-- Document 01, "Calls" and "Numbers of the checks": Table, for rows of w places. Definitions only.
+use mathlib.Core.Bool.{Bool, not, _&&_, _||_, cond}
+use mathlib.Core.List.{List, [], _∷_, _++_}
+use Prim.Native.Nat.{ℕ, zero, suc}
+use lib.Dec.{eqb, ltb}
+use lib.ListN.{length}
+use Rattle.model.specs.Tasks.{Task}
+use Rattle.project.specs.declared.answers.Check.{Check}
+use Rattle.project.specs.declared.answers.Check.the-variants.{Passed}
+use Rattle.project.specs.declared.answers.Check.the-variants.{Refused as Failed}
+use Rattle.project.specs.declared.answers.Filling.{Filling}
+use Rattle.project.specs.File.{cacheBlocks, taskCount}
+use Rattle.project.specs.Reading.{andThen, unless, fileCheck}
+use Rattle.project.specs.Filling.{pickFilling}
+use Rattle.project.specs.Tasks.{tasksOf, filePair}
+use Rattle.graphs.specs.TaskRows.{test11}
+use Rattle.area.specs.Area.{areaLength}
+
+-- check 1: "work area or table of another length"; the table is "of exactly 64 numbers"
+abbrev pub test1 : ℕ → List ℕ → List ℕ → Bool
+test1 w area table = not (eqb (length area) (areaLength w)) || not (eqb (length table) 64)
+
+-- check 11 "names the lowest task at fault", from task j on
+abbrev pub firstFull : ℕ → ℕ → ℕ → List Task → Check
+firstFull w n j [] = Passed
+firstFull w n j (t ∷ ts) = cond (test11 w n t) (Failed 11 j) (firstFull w n (suc j) ts)
+
+-- "Table checks 1 to 11."
+abbrev pub tableCheck : ℕ → List ℕ → List ℕ → List ℕ → Check
+tableCheck w s area table = andThen (unless 1 (test1 w area table)) (andThen (fileCheck s) (firstFull w (cacheBlocks s) 0 (tasksOf s)))
+
+abbrev pub tableAnswer : ℕ → List ℕ → List ℕ → List ℕ → Filling
+tableAnswer w s area table = pickFilling (tableCheck w s area table)
+
+-- "place 8i + j gets the pair number of i preempted by j; the diagonal and places of absent tasks get 0": place (i, j)
+abbrev pub entryOf : List ℕ → ℕ → ℕ → ℕ
+entryOf s i j = cond (ltb i (taskCount s) && (ltb j (taskCount s) && not (eqb i j))) (filePair s i j) 0
+
+-- `left` places of row i from column j on, and `left` rows from row i on
+abbrev pub rowFrom : (ℕ → ℕ → ℕ) → ℕ → ℕ → ℕ → List ℕ
+rowFrom f i zero j = []
+rowFrom f i (suc left) j = f i j ∷ rowFrom f i left (suc j)
+
+abbrev pub rowsFrom : (ℕ → ℕ → ℕ) → ℕ → ℕ → List ℕ
+rowsFrom f zero i = []
+rowsFrom f (suc left) i = rowFrom f i 8 0 ++ rowsFrom f left (suc i)
+
+unfoldable pub tableOf : List ℕ → List ℕ
+tableOf s = rowsFrom (entryOf s) 8 0
+
+abbrev pub pickTable : Check → List ℕ → List ℕ → List ℕ
+pickTable Passed old new = new
+pickTable (Failed c a) old new = old
+
+-- "After a refusal table and out list keep their contents"
+abbrev pub tableAfter : ℕ → List ℕ → List ℕ → List ℕ → List ℕ
+tableAfter w s area table = pickTable (tableCheck w s area table) table (tableOf s)

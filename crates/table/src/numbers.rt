@@ -1,0 +1,94 @@
+// The pair numbers of all tasks of a file, once the used sets of each are known.
+ghost use mathlib.Core.Path.{_≡_};
+ghost use mathlib.Core.Bool.{true};
+ghost use mathlib.Core.List.{List};
+ghost use Prim.Native.Nat.{_≤_, _<_};
+ghost use lib.ListN.{length, replicate};
+ghost use Rattle.model.specs.Tasks.{Task};
+ghost use Rattle.body.specs.Decode.{decode, taskOf};
+ghost use Rattle.body.specs.Walk.{keptOf};
+ghost use Rattle.project.specs.declared.answers.Check.the-variants.{Passed};
+ghost use Rattle.project.specs.File.{cacheBlocks, taskCount};
+ghost use Rattle.project.specs.Reading.{readingOf};
+ghost use Rattle.project.specs.Bodies.{accepted};
+ghost use Rattle.project.specs.Tasks.{tasksOf};
+ghost use Rattle.pairs.specs.Pairs.{UsedSets};
+ghost use Rattle.table.specs.Table.{firstFull, tableOf};
+ghost use Rattle.table.specs.Found.{UsedFound, NumbersFound};
+use body::block_count;
+use graphs::task_rows::task_rows;
+use pairs::numbers::meet_task;
+use project::answers::Check;
+use reader::entry;
+use reader::tasks::task_byte;
+
+// The pair numbers of the task of a body, preempted by each task; true where a block has too many states.
+fn task_numbers(
+    body: &[u8],
+    n: u8,
+    area: &mut [u16],
+    sets: &[u32],
+    counts: &[usize],
+    tasks: usize,
+    numbers: &mut [u16],
+) -> bool
+    requires { ⌜ (keptOf (decode (now body)) ≡ true) × (0 < n) × (n ≤ 16) × (length (now area) ≡ 24832) × UsedSets (now sets) (now counts) tasks × (now numbers ≡ replicate 8 0) ⌝ }
+    ensures { λ r. ⌜ (length (now (area .exit)) ≡ 24832) × ((ts : List Task) → UsedFound n ts tasks (now (sets .entry)) (now (counts .entry))
+        → NumbersFound n ts tasks (taskOf (decode (now (body .entry)))) (now (numbers .exit)) r) ⌝ }
+{
+    let mut reached = [0usize; 24];
+    let mut lived = [0usize; 24];
+    if task_rows(body, n, area, &mut reached, &mut lived) {
+        return true;
+    }
+    meet_task(
+        block_count(body),
+        &area[0..12288],
+        &reached,
+        &area[12288..24576],
+        &lived,
+        sets,
+        counts,
+        tasks,
+        numbers,
+    );
+    false
+}
+
+// The pair numbers of each task of an accepted file, or the lowest task of which a block has too many states.
+pub fn find_numbers(
+    file: &[u8],
+    n: u8,
+    tasks: usize,
+    area: &mut [u16],
+    sets: &[u32],
+    counts: &[usize],
+    numbers: &mut [u16],
+) -> Check
+    requires { ⌜ (accepted (readingOf (now file)) ≡ true) × (n ≡ cacheBlocks (now file)) × (tasks ≡ taskCount (now file)) × (length (now area) ≡ 24832)
+        × UsedFound n (tasksOf (now file)) tasks (now sets) (now counts) × (now numbers ≡ replicate 64 0) ⌝ }
+    ensures { λ r. ⌜ (length (now (area .exit)) ≡ 24832) × (r ≡ firstFull 16 n 0 (tasksOf (now (file .entry))))
+        × (r ≡ Passed → now (numbers .exit) ≡ tableOf (now (file .entry))) ⌝ }
+{
+    for i in 0..tasks {
+        let place = entry(file, i);
+        let from = place.start;
+        let to = from + place.length;
+        if task_numbers(
+            &file[from..to],
+            n,
+            area,
+            sets,
+            counts,
+            tasks,
+            &mut numbers[8 * i..8 * i + 8],
+        ) {
+            return Check::Refused {
+                check: 11,
+                task: task_byte(i),
+            };
+        }
+        numbers[9 * i] = 0;
+    }
+    Check::Passed
+}
