@@ -1,0 +1,3 @@
+pub mod Papers
+pub mod Demand
+pub mod Neighbours

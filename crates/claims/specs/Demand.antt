@@ -1,0 +1,41 @@
+-- Demand 3 over files and calls, as one claim about an accepted file. Definitions only.
+use mathlib.Core.Path.{_≡_}
+use mathlib.Core.Logic.{_≢_}
+use mathlib.Core.List.{List}
+use Prim.Native.Nat.{ℕ, _+_, _*_, _<_}
+use lib.ListN.{getD}
+use Rattle.cache.specs.Cache.{direct}
+use Rattle.model.specs.Runs.{DisturbedRun, U, D}
+use Rattle.model.specs.Demand.{Demand3}
+use Rattle.project.specs.declared.answers.Filling.the-variants.{Filled}
+use Rattle.project.specs.File.{cacheBlocks, taskCount}
+use Rattle.project.specs.Tasks.{tasksOf, filePair}
+use Rattle.table.specs.Table.{tableAnswer, tableAfter}
+use Rattle.sheet.specs.Sheet.{sheetNumbers, Fits, sheetRun}
+use Rattle.replay.specs.declared.Replaying.the-variants.{Counted}
+use Rattle.replay.specs.Replay.{replayingOf}
+use Rattle.replay.specs.ReplayVerdict.{Replayed}
+
+-- "where table answers, they are its entries"
+abbrev pub TableEntries : List ℕ → Type 0
+TableEntries s =
+    (area table : List ℕ) → tableAnswer 16 s area table ≡ Filled → (i j : ℕ) → i < taskCount s → j < taskCount s → j ≢ i
+    → getD (tableAfter 16 s area table) (8 * i + j) 0 ≡ filePair s i j
+
+-- "Where replay accepts a sheet of the run, U and D are its answers."
+abbrev pub ReplayAnswers : List ℕ → Type 0
+ReplayAnswers s = (sheet : List ℕ) (u d : ℕ) → replayingOf s sheet ≡ Counted u d → Replayed s sheet u d
+
+-- every disturbed run that a sheet can hold has a sheet, and replay of it answers the run's U and D
+abbrev pub RunsReplayed : List ℕ → Type 0
+RunsReplayed s =
+    (run : DisturbedRun (tasksOf s)) → Fits (tasksOf s) run
+    → replayingOf s (sheetNumbers (sheetRun (tasksOf s) run)) ≡ Counted (U (direct (cacheBlocks s)) run) (D (direct (cacheBlocks s)) run)
+
+-- demand 3 whole, over an accepted file: for every disturbed run U <= D <= U + the sum of the pair numbers, and for every two different tasks
+-- a run with exactly one preemption that reaches its number (`Demand3`); the table's entries are these numbers, and the replay's answers these U and D
+pub record Demand3Whole (s : List ℕ) : Type 0 where
+  pub runs : Demand3 (cacheBlocks s) (tasksOf s)
+  pub entries : TableEntries s
+  pub answers : ReplayAnswers s
+  pub sheets : RunsReplayed s

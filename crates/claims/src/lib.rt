@@ -1,0 +1,1 @@
+// Theorems over the calls: see specs/ and proofs/.

@@ -1,0 +1,4 @@
+pub mod FileLaws
+pub mod SheetLaws
+pub mod DisturbedLaws
+pub mod Replays

@@ -1,0 +1,63 @@
+-- Document 01, "Calls" and "Numbers of the checks": Replay. Definitions only.
+use mathlib.Core.Path.{_≡_}
+use mathlib.Core.Bool.{Bool, true, not}
+use mathlib.Core.List.{List, []}
+use Prim.Native.Nat.{ℕ}
+use Rattle.cache.specs.Cache.{direct}
+use Rattle.model.specs.Tasks.{task}
+use Rattle.model.specs.Runs.{countAtEnd}
+use Rattle.project.specs.declared.answers.Check.{Check}
+use Rattle.project.specs.declared.answers.Check.the-variants.{Passed}
+use Rattle.project.specs.declared.answers.Check.the-variants.{Refused as Failed}
+use Rattle.project.specs.File.{cacheBlocks, taskCount}
+use Rattle.project.specs.Reading.{andThen, unless, fileCheck, readingOf}
+use Rattle.project.specs.Bodies.{accepted}
+use Rattle.project.specs.Tasks.{tasksOf}
+use Rattle.sheet.specs.Sheet.{SheetRun}
+use Rattle.sheet.specs.Parsed.{parse, keptSheet, runOf, completeAll}
+use Rattle.replay.specs.declared.Replaying.{Replaying}
+use Rattle.replay.specs.declared.Replaying.the-variants.{Counted, Refused}
+
+-- the run that the sheet says, of tasks of the file s
+abbrev pub runIn : List ℕ → List ℕ → SheetRun
+runIn s sheet = runOf (parse (taskCount s) sheet)
+
+-- check 12: the sheet is not the numbers of a run that keeps the rules
+abbrev pub test12 : List ℕ → List ℕ → Bool
+test12 s sheet = not (keptSheet (parse (taskCount s) sheet))
+
+-- check 13: some path of the run isn't complete
+abbrev pub test13 : List ℕ → List ℕ → Bool
+test13 s sheet = not (completeAll (tasksOf s) (runIn s sheet))
+
+-- "Replay checks 2 to 10, 12, 13."
+abbrev pub replayCheck : List ℕ → List ℕ → Check
+replayCheck s sheet = andThen (fileCheck s) (andThen (unless 12 (test12 s sheet)) (unless 13 (test13 s sheet)))
+
+-- "U and D, the misses of p's own references without and with the preemptions, both from an empty cache"
+abbrev pub undisturbedIn : List ℕ → SheetRun → ℕ
+undisturbedIn s r = countAtEnd (direct (cacheBlocks s)) (tasksOf s) (task (tasksOf s) (r .p)) (r .path) []
+
+abbrev pub disturbedIn : List ℕ → SheetRun → ℕ
+disturbedIn s r = countAtEnd (direct (cacheBlocks s)) (tasksOf s) (task (tasksOf s) (r .p)) (r .path) (r .preemptions)
+
+-- both counts where the checks pass, else the check that fails first and the task it names
+abbrev pub pickReplaying : Check → ℕ → ℕ → Replaying
+pickReplaying Passed u d = Counted u d
+pickReplaying (Failed c a) u d = Refused c a
+
+abbrev pub replayingOf : List ℕ → List ℕ → Replaying
+replayingOf s sheet = pickReplaying (replayCheck s sheet) (undisturbedIn s (runIn s sheet)) (disturbedIn s (runIn s sheet))
+
+-- ---- for the functions within Replay
+
+-- checks 2 to 12 pass
+pub record Passed12 (s sheet : List ℕ) : Type 0 where
+  pub file : accepted (readingOf s) ≡ true
+  pub kept : keptSheet (parse (taskCount s) sheet) ≡ true
+
+-- checks 2 to 13 pass, and n is the file's
+pub record Passed13 (s sheet : List ℕ) (n : ℕ) : Type 0 where
+  pub rules : Passed12 s sheet
+  pub complete : completeAll (tasksOf s) (runIn s sheet) ≡ true
+  pub blocks : n ≡ cacheBlocks s

@@ -1,0 +1,5 @@
+pub mod Widths
+pub mod Segments
+pub mod PathCounts
+pub mod CacheLaws
+pub mod RunLaws

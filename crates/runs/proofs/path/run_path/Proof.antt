@@ -1,0 +1,121 @@
+-- `path::run_path` meets its contract: what is left of the path gives what the whole path gives from the start. Assumes nothing.
+use mathlib.Core.Path.{_≡_, refl, ap, _∙_}
+use Prim.Native.Nat.{_+_, _-_, _*_, _≤_, _<_}
+use native.Mathlib.Omega.{arith}
+use borrow.Author.Needs.{needs}
+use lib.ListN.{length, getD, drop}
+use Rattle.cache.specs.References.{numbers}
+use Rattle.cache.specs.Cache.{wide}
+use Rattle.model.specs.Tasks.{Block, block}
+use Rattle.body.specs.Decode.{decode, taskOf}
+use Rattle.body.proofs.WalksParts.{BlockParts}
+use Rattle.runs.specs.Running.{kept, ownPath}
+use Rattle.runs.proofs.RunLaws.{Walked, walked, all-at, few-bytes, path-turn, path-end, block-adds}
+use Rattle.runs.proofs.path.run_path.Statement.{statement}
+use Rattle.runs.proofs.path.run_path.Tie as tie
+
+abbrev Inv-loop : tie.InvT-loop
+Inv-loop body path n cells₀ misses₀ starts i₀ i-end cells misses i =
+    (i ≤ length path) × (misses ≤ misses₀ + 16 * i)
+    × (ownPath (wide 16 n) (taskOf (decode body)) (kept cells misses) (drop i path) ≡ ownPath (wide 16 n) (taskOf (decode body)) (kept cells₀ misses₀) path)
+
+abbrev μ-loop : tie.MeasureT-loop
+μ-loop body path n cells₀ misses₀ starts i₀ i-end cells misses i = length path - i
+
+abbrev Facts : tie.After-walk Inv-loop μ-loop → Type 0
+Facts c = Walked (c .before .before .before .args .body .now) (c .walk .result .starts)
+
+facts : (c : tie.After-walk Inv-loop μ-loop) → Facts c
+facts c = walked _ _ (c .before .before .before .pre .0) (c .walk .ensures .2)
+
+-- the block's number is one of the task
+there : (c : tie.After-count Inv-loop μ-loop) → c .count .result < length (taskOf (decode (c .before .before .before .before .before .before .before .before .args .body .now)))
+there c =
+    let start = c .before .before .before .before .before .before .before .before in
+    let t = taskOf (decode (start .args .body .now)) in
+    omega (arith, c .count .ensures .0, all-at (λ b. b < length t) (start .args .path .now) (start .pre .1) (c .before .before .before .loop .i) (omega arith))
+
+parts : (c : tie.After-count Inv-loop μ-loop) → BlockParts (c .before .before .before .before .before .before .before .before .args .body .now) (getD (c .before .before .before .before .before .walk .result .starts) (c .count .result) 0) (block (taskOf (decode (c .before .before .before .before .before .before .before .before .args .body .now))) (c .count .result))
+parts c = facts (c .before .before .before .before .before) .parts (c .count .result) (there c)
+
+refs : (c : tie.After-references Inv-loop μ-loop) → numbers (c .references .result .now) ≡ block (taskOf (decode (c .before .before .before .before .before .before .before .before .before .args .body .now))) (c .before .count .result) .references
+refs c = ap numbers (c .references .ensures) ∙ parts (c .before) .references
+
+walk-requires : tie.Need-walk-requires Inv-loop μ-loop
+walk-requires c κs = search needs
+
+loop-holds : tie.Need-loop-holds Inv-loop μ-loop
+loop-holds c = (omega arith, omega arith, refl)
+
+mul-count : tie.Need-mul-count Inv-loop μ-loop
+mul-count c = omega arith
+
+shared-slice-read-count : tie.Need-shared-slice-read-count Inv-loop μ-loop
+shared-slice-read-count c = omega arith
+
+count-requires : tie.Need-count-requires Inv-loop μ-loop
+count-requires c κs = search needs
+
+mul-at : tie.Need-mul-at Inv-loop μ-loop
+mul-at c = omega (arith, there c, facts (c .before .before .before .before .before) .bounds .few)
+
+array-read-at : tie.Need-array-read-at Inv-loop μ-loop
+array-read-at c = omega (arith, there c, facts (c .before .before .before .before .before) .bounds .few)
+
+references-requires : tie.Need-references-requires Inv-loop μ-loop
+references-requires c κs = parts c .references-within
+
+refer-all-requires : tie.Need-refer-all-requires Inv-loop μ-loop
+refer-all-requires c κs =
+    let k = c .before .before in
+    let start = k .before .before .before .before .before .before .before .before .before in
+    let t = taskOf (decode (start .args .body .now)) in
+    let few = few-bytes t (facts (k .before .before .before .before .before .before) .bounds) (k .before .count .result) (k .references .result .now) (refs k) in
+    (start .pre .2, start .pre .3, omega (arith, few))
+
+add-i : tie.Need-add-i Inv-loop μ-loop
+add-i c = omega arith
+
+loop-less : tie.Need-loop-less Inv-loop μ-loop
+loop-less c = omega arith
+
+loop-again : tie.Need-loop-again Inv-loop μ-loop
+loop-again c =
+    let k = c .before .before .before in
+    let at = k .before .before .before .before .loop in
+    let start = k .before .before .before .before .before .before .before .before .before in
+    let t = taskOf (decode (start .args .body .now)) in
+    let w = wide 16 (start .args .n) in
+    let path = start .args .path .now in
+    let bounds = facts (k .before .before .before .before .before .before) .bounds in
+    let bytes = k .references .result .now in (
+      omega arith,
+      omega (arith, block-adds w t path (at .i) (at .cells) (at .misses) bounds (k .before .count .result) bytes (refs k) (c .refer-all .ensures)),
+      path-turn w t path (at .i) (at .cells) (at .misses) bytes (omega arith) (k .before .count .ensures .0) (refs k) (c .refer-all .ensures) ∙ at .inv .2,
+    )
+
+returns : tie.Need-returns Inv-loop μ-loop
+returns c =
+    let at = c .before .loop in
+    let start = c .before .before .before .before .before .before in
+    path-end (wide 16 (start .args .n)) (taskOf (decode (start .args .body .now))) (start .args .path .now) (at .i) (at .cells) (at .misses) (omega arith) ∙ at .inv .2
+
+pub run-path-spec : {M : Type 1} → statement M
+run-path-spec =
+    tie.close
+    (tie.spec
+    Inv-loop
+    μ-loop
+    walk-requires
+    loop-holds
+    mul-count
+    shared-slice-read-count
+    count-requires
+    mul-at
+    array-read-at
+    references-requires
+    refer-all-requires
+    add-i
+    loop-less
+    loop-again
+    returns)

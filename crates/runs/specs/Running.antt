@@ -1,0 +1,21 @@
+-- A row and a count after references: one, and those of a path's blocks. Definitions only.
+use mathlib.Core.Bool.{not}
+use mathlib.Core.List.{List, [], _∷_}
+use Prim.Native.Nat.{ℕ, _+_}
+use Rattle.cache.specs.Sum.{bit}
+use Rattle.cache.specs.Cache.{Cache, hits, withReference}
+use Rattle.model.specs.Tasks.{Block, Task, block}
+use Rattle.model.specs.Runs.{Kept, ownReferences}
+
+-- the row and the count that the code lends
+abbrev pub kept : List ℕ → ℕ → Kept
+kept row count = record { row = row; count = count }
+
+-- one reference, which adds 1 if it misses
+abbrev pub withOwn : Cache → Kept → ℕ → Kept
+withOwn k s m = record { row = withReference k (s .row) m; count = s .count + bit (not (hits k (s .row) m)) }
+
+-- the references of the blocks of a path, in order
+abbrev pub ownPath : Cache → Task → Kept → List ℕ → Kept
+ownPath k t s [] = s
+ownPath k t s (b ∷ p) = ownPath k t (ownReferences k s (block t b .references)) p

@@ -1,0 +1,199 @@
+-- Check 12 in the code's words: a turn of the loop over the preemptions, and the answers of each function.
+-- The idea: what is left of the numbers keeps the rules just where the whole does.
+use mathlib.Core.Path.{_≡_, refl, sym, ap, _∙_}
+use mathlib.Core.Bool.{Bool, true, false, not, _&&_}
+use mathlib.Core.List.{List, [], _∷_}
+use Prim.Native.Nat.{ℕ, zero, suc, _+_, _-_, _≤_, _<_}
+use native.Mathlib.Numerals.{add-one}
+use native.Mathlib.Omega.{arith}
+use lib.Dec.{eqb, ltb, leb}
+use lib.ListN.{length, getD, take, drop, length-drop, length-take, drop-of-length-le}
+use lib.Seq.{drop-cons, drop-drop, take-all}
+use borrow.Author.Tests.{eqb-true, eqb-false, eq-eqb, ne-eqb, lt-ltb, le-ltb, le-leb, lt-leb}
+use Rattle.model.specs.Runs.{Preemption}
+use Rattle.model.proofs.Membership.{both-right}
+use Rattle.sheet.specs.Parsed.{ParsedList, brokenList, parsedList, withPreemption, pathTest, preemptionTest, preemptionsFrom, Parsed, broken, withPath, pickParsed, afterPath, parse, keptList, keptSheet}
+use Rattle.sheet.proofs.Parsing.{path-there}
+
+-- ---- one preemption, where x and y are the numbers of its point and its task
+
+module _ (t p long low point by k : ℕ) (rest : List ℕ) {x y : ℕ} (ex : x ≡ point) (ey : y ≡ by) where
+  pub test-low : x < low → false ≡ preemptionTest t p long low point by k rest
+  test-low a = let a' : point < low = omega arith in rw (lt-leb low point a')
+
+  pub test-outside : low ≤ x → long ≤ x → false ≡ preemptionTest t p long low point by k rest
+  test-outside a b =
+      let a' : low ≤ point = omega arith in
+      let b' : long ≤ point = omega arith in
+      rw (le-leb low point a', le-ltb point long b')
+
+  pub test-absent : low ≤ x → x < long → t ≤ y → false ≡ preemptionTest t p long low point by k rest
+  test-absent a b c =
+      let a' : low ≤ point = omega arith in
+      let b' : point < long = omega arith in
+      let c' : t ≤ by = omega arith in
+      rw (le-leb low point a', lt-ltb point long b', le-ltb by t c')
+
+  pub test-own : low ≤ x → x < long → y < t → y ≡ p → false ≡ preemptionTest t p long low point by k rest
+  test-own a b c d =
+      let a' : low ≤ point = omega arith in
+      let b' : point < long = omega arith in
+      let c' : by < t = omega arith in
+      let d' : by ≡ p = omega arith in
+      rw (le-leb low point a', lt-ltb point long b', lt-ltb by t c', eq-eqb by p d')
+
+  pub test-path : {r : Bool} → low ≤ x → x < long → y < t → (y ≡ p → ⊥) → r ≡ pathTest k rest → r ≡ preemptionTest t p long low point by k rest
+  test-path a b c d e =
+      let a' : low ≤ point = omega arith in
+      let b' : point < long = omega arith in
+      let c' : by < t = omega arith in
+      rw (le-leb low point a', lt-ltb point long b', lt-ltb by t c', ne-eqb by p (λ q. d (ey ∙ q))) e
+
+-- the path of k blocks, in the part of the numbers from `from` on
+pub path-in-part : (s : List ℕ) (from k : ℕ) {x : ℕ} {r : Bool} → x ≡ k → r ≡ pathTest x (take (length s - from) (drop from s)) → r ≡ pathTest k (drop from s)
+path-in-part s from k e q = q ∙ rw (e, take-all (length s - from) (drop from s) (omega (arith, length-drop from s)))
+
+-- ---- numbers at the beginning of what is left
+
+pub heads : (s : List ℕ) (at : ℕ) → at + 3 ≤ length s → drop at s ≡ getD s at 0 ∷ getD s (at + 1) 0 ∷ getD s (at + 2) 0 ∷ drop (at + 3) s
+heads s at h =
+    let a : at + 1 ≡ suc at = omega arith in
+    let b : at + 2 ≡ suc (suc at) = omega arith in
+    let c : at + 3 ≡ suc (suc (suc at)) = omega arith in
+    rw (a, b, c, drop-cons s at 0 (omega arith), drop-cons s (suc at) 0 (omega arith), drop-cons s (suc (suc at)) 0 (omega arith))
+
+pub head : (s : List ℕ) (at : ℕ) → at < length s → drop at s ≡ getD s at 0 ∷ drop (at + 1) s
+head s at h = drop-cons s at 0 h ∙ ap (λ i. getD s at 0 ∷ drop i s) (sym (add-one at))
+
+kept-more : (x : Preemption) (d : ParsedList) → keptList (withPreemption x d) ≡ keptList d
+kept-more x brokenList = refl
+kept-more x (parsedList xs) = refl
+
+kept-run : (p : ℕ) (path : List ℕ) (d : ParsedList) → keptSheet (withPath p path d) ≡ keptList d
+kept-run p path brokenList = refl
+kept-run p path (parsedList xs) = refl
+
+module _ (t p long : ℕ) where
+  -- ---- preemptions
+
+  few : (left low : ℕ) (s : List ℕ) → length s < 3 → keptList (preemptionsFrom t p long (suc left) low s) ≡ false
+  unfolding preemptionsFrom
+  few left low [] h = refl
+  few left low (a ∷ []) h = refl
+  few left low (a ∷ b ∷ []) h = refl
+  few left low (a ∷ b ∷ c ∷ s) h = absurd (omega arith)
+
+  more : (left low point by k : ℕ) (rest : List ℕ) (b : Bool) → preemptionTest t p long low point by k rest ≡ b
+      → keptList (preemptionsFrom t p long (suc left) low (point ∷ by ∷ k ∷ rest)) ≡ b && keptList (preemptionsFrom t p long left point (drop k rest))
+  unfolding preemptionsFrom
+  more left low point by k rest true e = rw e (kept-more (record { point = point; by = by; path = take k rest }) (preemptionsFrom t p long left point (drop k rest)))
+  more left low point by k rest false e = rw e
+
+  module _ (all i low : ℕ) (inside : i < all) (s : List ℕ) (at : ℕ) where
+    left-is : all - i ≡ suc (all - (i + 1))
+    left-is = omega arith
+
+    pub list-short : at ≤ length s → length s < at + 3 → false ≡ keptList (preemptionsFrom t p long (all - i) low (drop at s))
+    list-short h g = sym (rw left-is (few (all - (i + 1)) low (drop at s) (simp length-drop (omega arith))))
+
+    turn : at + 3 ≤ length s → (b : Bool) → preemptionTest t p long low (getD s at 0) (getD s (at + 1) 0) (getD s (at + 2) 0) (drop (at + 3) s) ≡ b
+        → keptList (preemptionsFrom t p long (all - i) low (drop at s))
+        ≡ b && keptList (preemptionsFrom t p long (all - (i + 1)) (getD s at 0) (drop (at + 3 + getD s (at + 2) 0) s))
+    turn h b e =
+        rw (left-is, heads s at h, ← (drop-drop (getD s (at + 2) 0) (at + 3) s))
+        (more (all - (i + 1)) low (getD s at 0) (getD s (at + 1) 0) (getD s (at + 2) 0) (drop (at + 3) s) b e)
+
+    pub list-broken : at + 3 ≤ length s → {r : Bool} → r ≡ preemptionTest t p long low (getD s at 0) (getD s (at + 1) 0) (getD s (at + 2) 0) (drop (at + 3) s) → r ≡ false
+        → false ≡ keptList (preemptionsFrom t p long (all - i) low (drop at s))
+    list-broken h e q = sym (turn h false (sym e ∙ q))
+
+    module _ (h : at + 3 ≤ length s) {r : Bool} (e : r ≡ preemptionTest t p long low (getD s at 0) (getD s (at + 1) 0) (getD s (at + 2) 0) (drop (at + 3) s)) (q : r ≡ true) where
+      -- where x and y are the numbers of its point and of its path's length
+      pub list-turn : {x y : ℕ} → x ≡ getD s at 0 → y ≡ getD s (at + 2) 0
+          → keptList (preemptionsFrom t p long (all - (i + 1)) x (drop (at + 3 + y) s)) ≡ keptList (preemptionsFrom t p long (all - i) low (drop at s))
+      list-turn ex ey = rw (ex, ey) (sym (turn h true (sym e ∙ q)))
+
+      -- the next preemption begins within the numbers
+      pub list-within : at + 3 + getD s (at + 2) 0 ≤ length s
+      list-within =
+          let k = getD s (at + 2) 0 in
+          let e1 = both-right (leb low (getD s at 0)) _ (sym e ∙ q) in
+          let e2 = both-right (ltb (getD s at 0) long) _ e1 in
+          let e3 = both-right (ltb (getD s (at + 1) 0) t) _ e2 in
+          let e4 = both-right (not (eqb (getD s (at + 1) 0) p)) _ e3 in
+          let there = path-there k (drop (at + 3) s) e4 in
+          omega (arith, length-drop (at + 3) s)
+
+  none-left : (low : ℕ) (s : List ℕ) → keptList (preemptionsFrom t p long zero low s) ≡ eqb (length s) 0
+  unfolding preemptionsFrom
+  none-left low [] = refl
+  none-left low (x ∷ s) = sym (ne-eqb (length (x ∷ s)) 0 (λ e. omega arith))
+
+  pub list-end : (all i low : ℕ) (s : List ℕ) (at : ℕ) → all ≤ i → at ≤ length s → eqb at (length s) ≡ keptList (preemptionsFrom t p long (all - i) low (drop at s))
+  list-end all i low s at h l =
+      let z : all - i ≡ 0 = omega arith in
+      sym (rw z (none-left low (drop at s) ∙ same (eqb at (length s)) refl))
+    where
+      same : (b : Bool) → eqb at (length s) ≡ b → eqb (length (drop at s)) 0 ≡ b
+      same true q = eq-eqb (length (drop at s)) 0 (omega (arith, length-drop at s, eqb-true at (length s) q))
+      same false q = ne-eqb (length (drop at s)) 0 (λ e. omega (arith, length-drop at s, eqb-false at (length s) q))
+
+-- ---- the count and the preemptions
+
+module _ (t p : ℕ) (path : List ℕ) (s : List ℕ) (at : ℕ) where
+  pub after-short : length s ≤ at → false ≡ keptSheet (afterPath t p path (drop at s))
+  unfolding afterPath
+  after-short h = rw (drop-of-length-le s {i = at} h)
+
+  -- where m is the count
+  pub after-many : {m : ℕ} → at < length s → m ≡ getD s at 0 → 16 < m → false ≡ keptSheet (afterPath t p path (drop at s))
+  unfolding afterPath
+  after-many h e g = rw (head s at h, ← e, lt-leb _ 16 g)
+
+  pub after-list : {m : ℕ} {r : Bool} (long : ℕ) → at < length s → m ≡ getD s at 0 → m ≤ 16 → length path ≡ long
+      → r ≡ keptList (preemptionsFrom t p long m 0 (drop (at + 1) s)) → r ≡ keptSheet (afterPath t p path (drop at s))
+  unfolding afterPath
+  after-list {m} long h e g l q = q ∙ sym (rw (head s at h, ← e, le-leb m 16 g, l) (kept-run p path (preemptionsFrom t p long m 0 (drop (at + 1) s))))
+
+-- ---- the whole sheet
+
+pub sheet-short : (t : ℕ) (s : List ℕ) → length s < 2 → false ≡ keptSheet (parse t s)
+unfolding parse
+sheet-short t [] h = refl
+sheet-short t (p ∷ []) h = refl
+sheet-short t (p ∷ l ∷ rest) h = absurd (omega arith)
+
+-- where p and l are its first two numbers
+module _ (t : ℕ) (s : List ℕ) {p : ℕ} (long : 2 ≤ length s) (ep : p ≡ getD s 0 0) where
+  two-heads : s ≡ p ∷ getD s 1 0 ∷ drop 2 s
+  two-heads = rw ep (go s long)
+    where
+      go : (s : List ℕ) → 2 ≤ length s → s ≡ getD s 0 0 ∷ getD s 1 0 ∷ drop 2 s
+      go [] h = absurd (omega arith)
+      go (a ∷ []) h = absurd (omega arith)
+      go (a ∷ b ∷ rest) h = refl
+
+  pub sheet-task : t ≤ p → false ≡ keptSheet (parse t s)
+  unfolding parse
+  sheet-task h = sym (ap (λ l. keptSheet (parse t l)) two-heads ∙ rw (le-ltb p t h))
+
+  module _ {l : ℕ} {b : Bool} (h : p < t) (el : l ≡ getD s 1 0) (eb : b ≡ pathTest l (take (length s - 2) (drop 2 s))) where
+    whole : (b : Bool) → pathTest (getD s 1 0) (drop 2 s) ≡ b
+        → keptSheet (parse t s) ≡ keptSheet (pickParsed b (afterPath t p (take (getD s 1 0) (drop 2 s)) (drop (getD s 1 0) (drop 2 s))) broken)
+    unfolding parse
+    whole b e = ap (λ l. keptSheet (parse t l)) two-heads ∙ rw (lt-ltb p t h, e)
+
+    test : pathTest (getD s 1 0) (drop 2 s) ≡ b
+    test = sym (path-in-part s 2 (getD s 1 0) el eb)
+
+    pub sheet-path : b ≡ false → false ≡ keptSheet (parse t s)
+    sheet-path q = sym (whole false (test ∙ q))
+
+    pub path-within : b ≡ true → 2 + l ≤ length s
+    path-within q = omega (arith, path-there (getD s 1 0) (drop 2 s) (test ∙ q), length-drop 2 s)
+
+    pub sheet-list : {r : Bool} → b ≡ true → ((path : List ℕ) → length path ≡ l → r ≡ keptSheet (afterPath t p path (drop (2 + l) s))) → r ≡ keptSheet (parse t s)
+    sheet-list q f =
+        let there = path-there (getD s 1 0) (drop 2 s) (test ∙ q) in
+        let k : length (take (getD s 1 0) (drop 2 s)) ≡ l = simp length-take (omega arith) in
+        f (take (getD s 1 0) (drop 2 s)) k ∙ sym (whole true (test ∙ q) ∙ rw (el, drop-drop (getD s 1 0) 2 s))

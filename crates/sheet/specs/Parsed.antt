@@ -1,0 +1,98 @@
+-- The run that a sheet is the numbers of, and whether its paths are complete, computed; proofs show that they agree with `Sheet`.
+use mathlib.Core.Bool.{Bool, true, false, not, _&&_}
+use mathlib.Core.List.{List, [], _∷_}
+use Prim.Native.Nat.{ℕ, zero, suc}
+use lib.Dec.{eqb, ltb, leb}
+use lib.ListN.{length, take, drop}
+use Rattle.model.specs.Lists.{mem}
+use Rattle.model.specs.Tasks.{Block, Task, block, end, task}
+use Rattle.model.specs.Runs.{Preemption}
+use Rattle.sheet.specs.Sheet.{SheetRun}
+
+-- preemptions, or none where the numbers break the rules
+pub data ParsedList : Type 0 where
+  brokenList : ParsedList
+  parsedList : List Preemption → ParsedList
+
+abbrev pub withPreemption : Preemption → ParsedList → ParsedList
+withPreemption x brokenList = brokenList
+withPreemption x (parsedList xs) = parsedList (x ∷ xs)
+
+abbrev pub pickList : Bool → ParsedList → ParsedList → ParsedList
+pickList true a b = a
+pickList false a b = b
+
+-- a path of k blocks stands at the beginning of `rest`
+abbrev pub pathTest : ℕ → List ℕ → Bool
+pathTest k rest = leb 1 k && (leb k 64 && leb k (length rest))
+
+-- a preemption with these numbers keeps the rules, where the point before it is `low`
+abbrev pub preemptionTest : ℕ → ℕ → ℕ → ℕ → ℕ → ℕ → ℕ → List ℕ → Bool
+preemptionTest t p long low point by k rest = leb low point && (ltb point long && (ltb by t && (not (eqb by p) && pathTest k rest)))
+
+-- `left` preemptions, and no number after them
+unfoldable pub preemptionsFrom : ℕ → ℕ → ℕ → ℕ → ℕ → List ℕ → ParsedList
+preemptionsFrom t p long zero low [] = parsedList []
+preemptionsFrom t p long zero low (x ∷ s) = brokenList
+preemptionsFrom t p long (suc left) low [] = brokenList
+preemptionsFrom t p long (suc left) low (point ∷ []) = brokenList
+preemptionsFrom t p long (suc left) low (point ∷ by ∷ []) = brokenList
+preemptionsFrom t p long (suc left) low (point ∷ by ∷ k ∷ rest) =
+    pickList (preemptionTest t p long low point by k rest)
+    (withPreemption (record { point = point; by = by; path = take k rest }) (preemptionsFrom t p long left point (drop k rest)))
+    brokenList
+
+-- a run, or none where the sheet breaks the rules
+pub data Parsed : Type 0 where
+  broken : Parsed
+  parsed : SheetRun → Parsed
+
+abbrev pub withPath : ℕ → List ℕ → ParsedList → Parsed
+withPath p path brokenList = broken
+withPath p path (parsedList xs) = parsed (record { p = p; path = path; preemptions = xs })
+
+abbrev pub pickParsed : Bool → Parsed → Parsed → Parsed
+pickParsed true a b = a
+pickParsed false a b = b
+
+-- the numbers after the path of l blocks of the task p: the count, and the preemptions
+unfoldable pub afterPath : ℕ → ℕ → List ℕ → List ℕ → Parsed
+afterPath t p path [] = broken
+afterPath t p path (count ∷ rest) = pickParsed (leb count 16) (withPath p path (preemptionsFrom t p (length path) count 0 rest)) broken
+
+unfoldable pub parse : ℕ → List ℕ → Parsed
+parse t [] = broken
+parse t (p ∷ []) = broken
+parse t (p ∷ l ∷ rest) = pickParsed (ltb p t && pathTest l rest) (afterPath t p (take l rest) (drop l rest)) broken
+
+-- check 12 passes
+abbrev pub keptList : ParsedList → Bool
+keptList brokenList = false
+keptList (parsedList xs) = true
+
+abbrev pub keptSheet : Parsed → Bool
+keptSheet broken = false
+keptSheet (parsed r) = true
+
+-- the run of a sheet that keeps the rules
+abbrev pub runOf : Parsed → SheetRun
+runOf broken = record { p = 0; path = []; preemptions = [] }
+runOf (parsed r) = r
+
+-- ---- complete paths
+
+-- a path from the block b over the blocks of the list to the end block
+abbrev pub leadsToEnd : Task → ℕ → List ℕ → Bool
+leadsToEnd t b [] = ltb b (length t) && eqb b (end t)
+leadsToEnd t b (c ∷ path) = mem eqb c (block t b .successors) && leadsToEnd t c path
+
+abbrev pub completePath : Task → List ℕ → Bool
+completePath t [] = false
+completePath t (b ∷ path) = eqb b 0 && leadsToEnd t b path
+
+abbrev pub completeEach : List Task → List Preemption → Bool
+completeEach ts [] = true
+completeEach ts (x ∷ xs) = completePath (task ts (x .by)) (x .path) && completeEach ts xs
+
+abbrev pub completeAll : List Task → SheetRun → Bool
+completeAll ts r = completePath (task ts (r .p)) (r .path) && completeEach ts (r .preemptions)

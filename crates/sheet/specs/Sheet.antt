@@ -1,0 +1,75 @@
+-- Document 01, "Calls": the run sheet of Replay, and checks 12 and 13 against it. Definitions only.
+use mathlib.Core.Path.{_≡_}
+use mathlib.Core.Logic.{_≢_, _⊎_}
+use mathlib.Core.Bool.{true}
+use mathlib.Core.List.{List, [], _∷_, _++_}
+use Prim.Native.Nat.{ℕ, _≤_, _<_}
+use lib.ListN.{length}
+use Rattle.model.specs.Lists.{Each}
+use Rattle.model.specs.Tasks.{Task, Complete, task}
+use Rattle.model.specs.Runs.{Preemption, NeverFall, DisturbedRun}
+
+-- what a run sheet says: task p, its path, and the preemptions
+pub record SheetRun : Type 0 where
+  pub p : ℕ
+  pub path : List ℕ
+  pub preemptions : List Preemption
+
+-- "path length ..; the blocks"
+abbrev pub pathNumbers : List ℕ → List ℕ
+pathNumbers path = length path ∷ path
+
+-- "for each the point .., the task, path length .., the blocks"
+abbrev pub preemptionNumbers : List Preemption → List ℕ
+preemptionNumbers [] = []
+preemptionNumbers (x ∷ xs) = x .point ∷ x .by ∷ (pathNumbers (x .path) ++ preemptionNumbers xs)
+
+-- "a run sheet of two-byte numbers: task p; path length 1 to 64; the blocks; preemption count 0 to 16; for each .."
+abbrev pub sheetNumbers : SheetRun → List ℕ
+sheetNumbers r = r .p ∷ (pathNumbers (r .path) ++ (length (r .preemptions) ∷ preemptionNumbers (r .preemptions)))
+
+-- "path length 1 to 64"
+pub record PathInBounds (path : List ℕ) : Type 0 where
+  pub some : 1 ≤ length path
+  pub few : length path ≤ 64
+
+-- a preemption of a path of `long` blocks of the task p, in a file of t tasks: "Points lie in the path ..."; "A preempting task isn't p."
+pub record PreemptionInRules (t p long : ℕ) (x : Preemption) : Type 0 where
+  pub inPath : x .point < long
+  pub there : x .by < t
+  pub other : x .by ≢ p
+  pub bounds : PathInBounds (x .path)
+
+-- the rules of a sheet, in a file of t tasks: "preemption count 0 to 16"; "Points .. never fall."
+pub record InRules (t : ℕ) (r : SheetRun) : Type 0 where
+  pub there : r .p < t
+  pub bounds : PathInBounds (r .path)
+  pub few : length (r .preemptions) ≤ 16
+  pub each : Each (PreemptionInRules t (r .p) (length (r .path))) (r .preemptions)
+  pub rising : NeverFall (r .preemptions)
+
+-- the sheet is the numbers of a run that keeps the rules
+abbrev pub Keeps : ℕ → List ℕ → Type 0
+Keeps t sheet = (r : SheetRun) × InRules t r × (sheet ≡ sheetNumbers r)
+
+-- check 12: "run sheet short or too long, or a length, count, task or point against the rules"
+abbrev pub Fault12 : ℕ → List ℕ → Type 0
+Fault12 t sheet = Keeps t sheet → ⊥
+
+-- all paths of a run are complete
+pub record AllComplete (ts : List Task) (r : SheetRun) : Type 0 where
+  pub own : Complete (task ts (r .p)) (r .path)
+  pub each : Each (λ (x : Preemption). Complete (task ts (x .by)) (x .path)) (r .preemptions)
+
+-- check 13: "a path in it isn't complete, or names a block that isn't there", of a sheet that keeps the rules
+abbrev pub Fault13 : List Task → List ℕ → Type 0
+Fault13 ts sheet = (r : SheetRun) × InRules (length ts) r × (sheet ≡ sheetNumbers r) × (AllComplete ts r → ⊥)
+
+-- what a sheet can hold: "path length 1 to 64", "preemption count 0 to 16"
+pub record Fits (ts : List Task) (run : DisturbedRun ts) : Type 0 where
+  pub short : length (run .path) ≤ 64
+  pub few : length (run .preemptions) ≤ 16
+  pub each : Each (λ (x : Preemption). length (x .path) ≤ 64) (run .preemptions)
+
+abbrev pub sheetRun : (ts : List Task) → DisturbedRun ts → SheetRun
+sheetRun ts run = record { p = run .p; path = run .path; preemptions = run .preemptions }

@@ -1,0 +1,124 @@
+// Check 12: whether the numbers of a run sheet keep the rules.
+ghost use mathlib.Core.Path.{_≡_};
+ghost use mathlib.Core.List.{List};
+ghost use Prim.Native.Nat.{ℕ, _+_, _≤_, _<_};
+ghost use lib.ListN.{length, getD, drop};
+ghost use Rattle.sheet.specs.Parsed.{pathTest, preemptionTest, preemptionsFrom, afterPath, parse, keptList, keptSheet};
+
+// The most blocks of a path.
+const BLOCKS: usize = 64;
+
+// The most preemptions.
+const PREEMPTIONS: usize = 16;
+
+// A number of a sheet as a count.
+pub fn count(x: u16) -> usize
+    ensures { λ r. ⌜ (r ≡ x) × (r < 65536) ⌝ }
+{
+    x as usize
+}
+
+// Whether a path of this many blocks can stand at the beginning of the numbers.
+fn path_kept(long: usize, rest: &[u16]) -> bool
+    ensures { λ r. ⌜ r ≡ pathTest long (now (rest .entry)) ⌝ }
+{
+    if long < 1 {
+        return false;
+    }
+    if BLOCKS < long {
+        return false;
+    }
+    long <= rest.len()
+}
+
+// Whether the preemption that begins at `at` keeps the rules, in a path of `long` blocks of the task p, where the point before it is `low`.
+fn preemption_kept(
+    sheet: &[u16],
+    at: usize,
+    tasks: usize,
+    p: usize,
+    long: usize,
+    low: usize,
+) -> bool
+    requires { ⌜ at + 3 ≤ length (now sheet) ⌝ }
+    ensures { λ r. ⌜ r ≡ preemptionTest tasks p long low (getD (now (sheet .entry)) at 0) (getD (now (sheet .entry)) (at + 1) 0)
+        (getD (now (sheet .entry)) (at + 2) 0) (drop (at + 3) (now (sheet .entry))) ⌝ }
+{
+    let point = count(sheet[at]);
+    let by = count(sheet[at + 1]);
+    if point < low {
+        return false;
+    }
+    if long <= point {
+        return false;
+    }
+    if tasks <= by {
+        return false;
+    }
+    if by == p {
+        return false;
+    }
+    let from = at + 3;
+    path_kept(count(sheet[at + 2]), &sheet[from..])
+}
+
+// Whether the numbers from `from` on are this many preemptions, and nothing else.
+fn preemptions_kept(
+    sheet: &[u16],
+    from: usize,
+    all: usize,
+    tasks: usize,
+    p: usize,
+    long: usize,
+) -> bool
+    requires { ⌜ from ≤ length (now sheet) ⌝ }
+    ensures { λ r. ⌜ r ≡ keptList (preemptionsFrom tasks p long all 0 (drop from (now (sheet .entry)))) ⌝ }
+{
+    let mut at = from;
+    let mut low: usize = 0;
+    for k in 0..all {
+        if sheet.len() < at + 3 {
+            return false;
+        }
+        if preemption_kept(sheet, at, tasks, p, long, low) {
+            low = count(sheet[at]);
+            at = at + 3 + count(sheet[at + 2]);
+        } else {
+            return false;
+        }
+    }
+    at == sheet.len()
+}
+
+// Whether the numbers from `at` on are a count and as many preemptions.
+fn list_kept(sheet: &[u16], at: usize, tasks: usize, p: usize, long: usize) -> bool
+    requires { ⌜ at ≤ length (now sheet) ⌝ }
+    ensures { λ r. ⌜ ((path : List ℕ) → length path ≡ long → r ≡ keptSheet (afterPath tasks p path (drop at (now (sheet .entry))))) ⌝ }
+{
+    if sheet.len() <= at {
+        return false;
+    }
+    let all = count(sheet[at]);
+    if PREEMPTIONS < all {
+        return false;
+    }
+    preemptions_kept(sheet, at + 1, all, tasks, p, long)
+}
+
+// Check 12: whether the sheet keeps the rules, in a file of this many tasks.
+pub fn sheet_kept(sheet: &[u16], tasks: usize) -> bool
+    ensures { λ r. ⌜ r ≡ keptSheet (parse tasks (now (sheet .entry))) ⌝ }
+{
+    if sheet.len() < 2 {
+        return false;
+    }
+    let p = count(sheet[0]);
+    if tasks <= p {
+        return false;
+    }
+    let long = count(sheet[1]);
+    if path_kept(long, &sheet[2..]) {
+        return list_kept(sheet, 2 + long, tasks, p, long);
+    }
+    false
+}
