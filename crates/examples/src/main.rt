@@ -2,10 +2,12 @@
 ghost use mathlib.Core.Path.{_≡_};
 ghost use Prim.Native.Nat.{_≤_, _<_};
 ghost use lib.ListN.{set};
-ghost use Rattle.examples.specs.FileE.{fileE};
+ghost use Rattle.project.specs.FileE.{fileE};
 use libc::STDOUT_FILENO;
+use project::answers::Filling;
 use project::answers::Reading;
 use project::answers::Writing;
+use replay::Replaying;
 
 // File E.
 const E: [u8; 33] = [
@@ -66,6 +68,78 @@ const APART: [u8; 20] = [
     0x00,
     0x00,
     0x00,
+];
+
+// A sheet of task 0 of E with a path of 65 blocks.
+const LONG: [u16; 68] = [
+    0,
+    65,
+    0,
+    0,
+    0,
+    0,
+    0,
+    0,
+    0,
+    0,
+    0,
+    0,
+    0,
+    0,
+    0,
+    0,
+    0,
+    0,
+    0,
+    0,
+    0,
+    0,
+    0,
+    0,
+    0,
+    0,
+    0,
+    0,
+    0,
+    0,
+    0,
+    0,
+    0,
+    0,
+    0,
+    0,
+    0,
+    0,
+    0,
+    0,
+    0,
+    0,
+    0,
+    0,
+    0,
+    0,
+    0,
+    0,
+    0,
+    0,
+    0,
+    0,
+    0,
+    0,
+    0,
+    0,
+    0,
+    0,
+    0,
+    0,
+    0,
+    0,
+    0,
+    0,
+    0,
+    0,
+    0,
+    0,
 ];
 
 // File E with another byte.
@@ -162,6 +236,108 @@ fn show_writings() {
     show_writing(b"lengths 17, 0", 2, bodies, &[17, 0], 34);
 }
 
+// What filling answers.
+fn show_filling(answer: Filling) {
+    match answer {
+        Filling::Filled => {
+            print(b": filled\n");
+        }
+        Filling::Refused { check, task } => {
+            print(b": refused ");
+            print_number(check as u64);
+            print(b" task ");
+            print_number(task as u64);
+            print(b"\n");
+        }
+    }
+}
+
+// Table of E, with a work area and a table of so many numbers.
+fn show_table(area_length: usize, table_length: usize)
+    requires { ⌜ («area_length» ≤ 24833) × («table_length» ≤ 65) ⌝ }
+{
+    let mut area = [0u16; 24833];
+    let mut numbers = [0u16; 65];
+    print(b"Table of E, work area of ");
+    print_number(area_length as u64);
+    print(b", table of ");
+    print_number(table_length as u64);
+    show_filling(table::table(&E, &mut area[0..area_length], &mut numbers[0..table_length]));
+}
+
+// States of a task of E, with a work area of so many numbers.
+fn show_states(task: usize, area_length: usize)
+    requires { ⌜ «area_length» ≤ 24833 ⌝ }
+{
+    let mut area = [0u16; 24833];
+    print(b"States of task ");
+    print_number(task as u64);
+    print(b" of E, work area of ");
+    print_number(area_length as u64);
+    show_filling(states::states::states(&E, task, &mut area[0..area_length]));
+}
+
+// What replaying a sheet on E answers.
+fn show_replay(name: &[u8], sheet: &[u16]) {
+    print(b"Replay on E of ");
+    print(name);
+    match replay::replay(&E, sheet) {
+        Replaying::Counted {
+            undisturbed,
+            disturbed,
+        } => {
+            print(b": U = ");
+            print_number(undisturbed as u64);
+            print(b", D = ");
+            print_number(disturbed as u64);
+        }
+        Replaying::Refused { check, task } => {
+            print(b": refused ");
+            print_number(check as u64);
+            print(b" task ");
+            print_number(task as u64);
+        }
+    }
+    print(b"\n");
+}
+
+// The replays of document 01, and sheets that break each rule.
+fn show_replays() {
+    show_replay(b"0, 2, 0, 0, 1, 0, 1, 1, 0", &[0, 2, 0, 0, 1, 0, 1, 1, 0]);
+    show_replay(b"0, 2, 0, 0, 0", &[0, 2, 0, 0, 0]);
+    show_replay(b"0, 2, 0, 0, 1, 1, 1, 1, 0", &[0, 2, 0, 0, 1, 1, 1, 1, 0]);
+    show_replay(b"an empty sheet", &[0u16; 0]);
+    show_replay(b"0, 0", &[0, 0]);
+    show_replay(b"2, 1, 0, 0: no such task", &[2, 1, 0, 0]);
+    show_replay(b"0, 1, 0: no count", &[0, 1, 0]);
+    show_replay(b"0, 1, 0, 0, 0: a number too many", &[0, 1, 0, 0, 0]);
+    show_replay(b"0, 1, 0, 17: too many preemptions", &[0, 1, 0, 17]);
+    show_replay(
+        b"0, 1, 0, 1, 1, 1, 1, 0: a point behind the path",
+        &[0, 1, 0, 1, 1, 1, 1, 0],
+    );
+    show_replay(
+        b"0, 2, 0, 0, 2, 1, 1, 1, 0, 0, 1, 1, 0: a falling point",
+        &[0, 2, 0, 0, 2, 1, 1, 1, 0, 0, 1, 1, 0],
+    );
+    show_replay(
+        b"0, 2, 0, 0, 2, 0, 1, 1, 0, 0, 1, 1, 0: equal points",
+        &[0, 2, 0, 0, 2, 0, 1, 1, 0, 0, 1, 1, 0],
+    );
+    show_replay(
+        b"0, 1, 0, 1, 0, 0, 1, 0: preempted by itself",
+        &[0, 1, 0, 1, 0, 0, 1, 0],
+    );
+    show_replay(b"a path of 65 blocks", &LONG);
+    show_replay(b"0, 1, 5, 0", &[0, 1, 5, 0]);
+    show_replay(b"0, 1, 65535, 0", &[0, 1, 65535, 0]);
+    show_replay(b"1, 2, 0, 0, 0: no such jump", &[1, 2, 0, 0, 0]);
+    show_replay(
+        b"0, 2, 0, 0, 1, 0, 1, 1, 1: no such block",
+        &[0, 2, 0, 0, 1, 0, 1, 1, 1],
+    );
+}
+
 fn main() {
     show_reading(b"E", &E);
     show_reading(b"7 bytes", &E[0..7]);
@@ -182,4 +358,14 @@ fn main() {
     show_place(2);
     show_same();
     show_writings();
+    show_table(24832, 63);
+    show_table(24832, 64);
+    show_table(24832, 65);
+    show_table(24831, 64);
+    show_table(24833, 64);
+    show_states(0, 24831);
+    show_states(0, 24832);
+    show_states(0, 24833);
+    show_states(2, 24832);
+    show_replays();
 }

@@ -2,3 +2,4 @@ pub mod FileLaws
 pub mod SheetLaws
 pub mod DisturbedLaws
 pub mod Replays
+pub mod CallLaws
