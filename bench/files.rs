@@ -1,0 +1,214 @@
+//! Project files for measuring.
+
+/// A block: its successors and its references.
+pub type Block = (Vec<u8>, Vec<u16>);
+
+pub fn body(blocks: &[Block]) -> Vec<u8> {
+    let mut bytes = vec![blocks.len() as u8, 0];
+    for (successors, references) in blocks {
+        bytes.extend([0, successors.len() as u8, references.len() as u8]);
+        bytes.extend(successors);
+        for m in references {
+            bytes.extend(m.to_le_bytes());
+        }
+    }
+    bytes
+}
+
+pub fn file(n: u8, bodies: &[Vec<u8>]) -> Vec<u8> {
+    let mut bytes = b"CRPD".to_vec();
+    bytes.extend([1, n, bodies.len() as u8, 0]);
+    let mut at = 8 + 4 * bodies.len();
+    for body in bodies {
+        bytes.extend((at as u16).to_le_bytes());
+        bytes.extend((body.len() as u16).to_le_bytes());
+        at += body.len();
+    }
+    for body in bodies {
+        bytes.extend(body);
+    }
+    bytes
+}
+
+/// Memory block number x of cache block c, for task j: no two tasks share one.
+fn memory(n: usize, j: usize, x: usize, c: usize) -> u16 {
+    (n * (64 * j + x) + c) as u16
+}
+
+/// A loop over `forks` forks in a row, each of which loads one of two memory blocks of its own cache block, and `chain` blocks after
+/// them. The entry loads a memory block into each cache block of a fork and into most others, and so does the end; so each block in the
+/// loop has up to 2^forks states of either kind.
+fn forks(n: usize, j: usize, forks: usize, chain: usize) -> Vec<Block> {
+    let all: Vec<u16> = (0..n).filter(|c| *c < forks || (c + j) % 4 != 3).map(|c| memory(n, j, 0, c)).collect();
+    let mut blocks = vec![(vec![1], all.clone())];
+    for k in 0..forks {
+        let head = 1 + 3 * k as u8;
+        blocks.push((vec![head + 1, head + 2], vec![]));
+        blocks.push((vec![head + 3], vec![memory(n, j, 0, k)]));
+        blocks.push((vec![head + 3], vec![memory(n, j, 1, k)]));
+    }
+    for k in 0..chain {
+        let next = blocks.len() as u8 + 1;
+        blocks.push((vec![next], vec![all[forks + k % (all.len() - forks)]]));
+    }
+    let end = blocks.len() as u8 + 1;
+    blocks.push((vec![1, end], vec![]));
+    blocks.push((vec![], all));
+    blocks
+}
+
+/// Two tasks of one and of two blocks.
+pub fn tiny() -> Vec<u8> {
+    file(2, &[body(&[(vec![0], vec![0, 1])]), body(&[(vec![1], vec![2]), (vec![], vec![5])])])
+}
+
+/// Four tasks of about a dozen blocks with two or three forks.
+pub fn typical() -> Vec<u8> {
+    let bodies: Vec<Vec<u8>> = (0..4).map(|j| body(&forks(8, j, 2 + j % 2, 2))).collect();
+    file(8, &bodies)
+}
+
+/// Eight tasks of 24 blocks, 16 cache blocks, 32 states a block in the loop.
+pub fn largest() -> Vec<u8> {
+    let bodies: Vec<Vec<u8>> = (0..8).map(|j| body(&forks(16, j, 5, 6))).collect();
+    file(16, &bodies)
+}
+
+/// Files of the typical kind, one for each of the checks 2 to 10, which they fail.
+pub fn refused_early() -> Vec<Vec<u8>> {
+    let whole = typical();
+    let changed = |at: usize, byte: u8| {
+        let mut bytes = whole.clone();
+        bytes[at] = byte;
+        bytes
+    };
+    let body = 8 + 4 * whole[6] as usize;
+    let apart = file(8, &[body_of_two()]);
+    let shared = file(8, &[self::body(&[(vec![], vec![1])]), self::body(&[(vec![], vec![1])])]);
+    vec![
+        whole[..7].to_vec(),
+        changed(0, b'D'),
+        changed(4, 2),
+        changed(5, 17),
+        changed(6, 9),
+        changed(8, 0),
+        changed(body + 1, 1),
+        apart,
+        shared,
+    ]
+}
+
+/// A body of two blocks without successors.
+fn body_of_two() -> Vec<u8> {
+    body(&[(vec![], vec![]), (vec![], vec![])])
+}
+
+/// Eight tasks, the last of which has six forks in a row.
+pub fn refused_states() -> Vec<u8> {
+    let bodies: Vec<Vec<u8>> = (0..8).map(|j| body(&forks(16, j, if j == 7 { 6 } else { 5 }, 3))).collect();
+    file(16, &bodies)
+}
+
+/// The last task a file speaks of in byte 6.
+pub fn last_task(file: &[u8]) -> usize {
+    file[6] as usize - 1
+}
+
+/// A complete path through the task of `forks` with as many rounds of its loop as 64 blocks allow, taking the sides of the forks by turns.
+fn path(forks: usize, chain: usize) -> Vec<u16> {
+    let rounds = 62 / (2 * forks + chain + 1);
+    let mut blocks = vec![0];
+    for round in 0..rounds {
+        for k in 0..forks {
+            blocks.extend([1 + 3 * k, 2 + 3 * k + (round + k) % 2]);
+        }
+        blocks.extend(1 + 3 * forks..2 + 3 * forks + chain);
+    }
+    blocks.push(2 + 3 * forks + chain);
+    blocks.iter().map(|&b| b as u16).collect()
+}
+
+/// A sheet of task 0 and some preemptions, each a point, a task and a path.
+fn sheet(path: &[u16], preemptions: &[(usize, usize, Vec<u16>)]) -> Vec<u16> {
+    let mut numbers = vec![0, path.len() as u16];
+    numbers.extend(path);
+    numbers.push(preemptions.len() as u16);
+    for (point, task, other) in preemptions {
+        numbers.extend([*point as u16, *task as u16, other.len() as u16]);
+        numbers.extend(other);
+    }
+    numbers
+}
+
+/// The sheet of the longest path of task 0 with 16 preemptions, spread over the path, by the other tasks in turn.
+fn full_sheet(tasks: usize, path_of: impl Fn(usize) -> Vec<u16>) -> Vec<u16> {
+    let own = path_of(0);
+    let preemptions: Vec<(usize, usize, Vec<u16>)> = (0..16)
+        .map(|k| {
+            let task = 1 + k % (tasks - 1);
+            (k * own.len() / 16, task, path_of(task))
+        })
+        .collect();
+    sheet(&own, &preemptions)
+}
+
+/// For the tiny file: two blocks and one preemption.
+pub fn tiny_sheet() -> Vec<u16> {
+    sheet(&[0, 0], &[(0, 1, vec![0, 1])])
+}
+
+/// For the typical file, and for the files that are refused early.
+pub fn typical_sheet() -> Vec<u16> {
+    full_sheet(4, |j| path(2 + j % 2, 2))
+}
+
+/// For the largest file.
+pub fn largest_sheet() -> Vec<u16> {
+    full_sheet(8, |_| path(5, 6))
+}
+
+/// For the largest file: a sheet with a number too many, which fails check 12, and one whose last path doesn't end in the end block,
+/// which fails check 13.
+pub fn refused_sheets() -> Vec<Vec<u16>> {
+    let mut long = largest_sheet();
+    long.push(0);
+    let mut broken = largest_sheet();
+    let last = broken.len() - 1;
+    broken[last] = 1;
+    vec![long, broken]
+}
+
+/// What the writer takes: n, the joined bodies, their lengths, and the length of the out list.
+pub struct Parts {
+    pub n: u8,
+    pub bodies: Vec<u8>,
+    pub lengths: Vec<usize>,
+    pub room: usize,
+}
+
+/// The parts that give this file; the out list is as long as the file.
+pub fn parts(file: &[u8]) -> Parts {
+    let t = file[6] as usize;
+    let length = |j: usize| u16::from_le_bytes([file[10 + 4 * j], file[11 + 4 * j]]) as usize;
+    Parts { n: file[5], bodies: file[8 + 4 * t..].to_vec(), lengths: (0..t).map(length).collect(), room: file.len() }
+}
+
+/// Parts of the typical kind, one for each of the checks 5 to 10 and 14, which they fail.
+pub fn refused_parts() -> Vec<Parts> {
+    let whole = || parts(&typical());
+    let files = refused_early();
+    let mut many = whole();
+    many.lengths.extend([0; 5]);
+    let mut missing = whole();
+    missing.bodies.pop();
+    let narrow = Parts { room: whole().room - 1, ..whole() };
+    vec![
+        Parts { n: 17, ..whole() },
+        many,
+        missing,
+        parts(&files[6]),
+        parts(&files[7]),
+        parts(&files[8]),
+        narrow,
+    ]
+}

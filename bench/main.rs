@@ -1,0 +1,193 @@
+//! Measures the proved calls against plain Rust versions of them, on the same inputs in the same run.
+mod files;
+mod plain;
+mod proved;
+
+use files::Parts;
+use std::hint::black_box;
+use std::time::Instant;
+
+/// The least time of a call, in nanoseconds, over several rounds of about 20 ms each.
+fn measure(mut call: impl FnMut()) -> f64 {
+    let start = Instant::now();
+    call();
+    let once = start.elapsed().as_nanos().max(20) as usize;
+    let calls = (20_000_000 / once).clamp(1, 1_000_000);
+    let mut least = f64::MAX;
+    for _ in 0..9 {
+        let start = Instant::now();
+        for _ in 0..calls {
+            call();
+        }
+        least = least.min(start.elapsed().as_nanos() as f64 / calls as f64);
+    }
+    least
+}
+
+/// The heading of the lines of a call.
+fn heading(call: &str) {
+    println!("{call}, ns a call (the least of nine rounds)");
+    println!("{:16} {:>12} {:>12} {:>8}", "class", "plain Rust", "proved", "ratio");
+}
+
+/// Measures both versions on all inputs of a class and prints their times.
+fn line<I, A>(name: &str, inputs: &[I], mut plain: impl FnMut(&I) -> A, mut proved: impl FnMut(&I) -> A) {
+    let count = inputs.len() as f64;
+    let slow = measure(|| {
+        for input in inputs {
+            black_box(plain(black_box(input)));
+        }
+    });
+    let quick = measure(|| {
+        for input in inputs {
+            black_box(proved(black_box(input)));
+        }
+    });
+    println!("{name:16} {:12.0} {:12.0} {:8.3}", slow / count, quick / count, quick / slow);
+}
+
+/// The classes of files that Table and States take.
+fn file_classes() -> [(&'static str, Vec<Vec<u8>>); 5] {
+    [
+        ("tiny", vec![files::tiny()]),
+        ("typical", vec![files::typical()]),
+        ("largest", vec![files::largest()]),
+        ("refused early", files::refused_early()),
+        ("refused with 11", vec![files::refused_states()]),
+    ]
+}
+
+fn table() {
+    heading("Table");
+    let (mut area, mut other_area) = (vec![0; 24832], vec![0; 24832]);
+    for (name, files) in &file_classes() {
+        let (mut numbers, mut other) = ([7; 64], [7; 64]);
+        for file in files {
+            let expected = plain::table(file, &mut area, &mut numbers);
+            assert_eq!(expected, proved::table(file, &mut other_area, &mut other), "{name}");
+            assert_eq!(numbers, other, "{name}");
+        }
+        line(
+            name,
+            files,
+            |file| plain::table(file, &mut area, &mut numbers),
+            |file| proved::table(file, &mut other_area, &mut other),
+        );
+    }
+}
+
+/// States of the last task of each file.
+fn states() {
+    heading("States");
+    let (mut area, mut other) = (vec![0; 24832], vec![0; 24832]);
+    for (name, files) in &file_classes() {
+        for file in files {
+            area.fill(7);
+            other.fill(7);
+            let task = files::last_task(file);
+            let expected = plain::states(file, task, &mut area);
+            assert_eq!(expected, proved::states(file, task, &mut other), "{name}");
+            assert!(area == other, "{name}");
+        }
+        line(
+            name,
+            files,
+            |file| plain::states(file, files::last_task(file), &mut area),
+            |file| proved::states(file, files::last_task(file), &mut other),
+        );
+    }
+}
+
+/// A file and a sheet.
+type Replayed = (Vec<u8>, Vec<u16>);
+
+fn replay_classes() -> [(&'static str, Vec<Replayed>); 5] {
+    let early = files::refused_early().into_iter().map(|file| (file, files::typical_sheet()));
+    let sheets = files::refused_sheets().into_iter().map(|sheet| (files::largest(), sheet));
+    [
+        ("tiny", vec![(files::tiny(), files::tiny_sheet())]),
+        ("typical", vec![(files::typical(), files::typical_sheet())]),
+        ("largest", vec![(files::largest(), files::largest_sheet())]),
+        ("refused early", early.collect()),
+        ("refused by sheet", sheets.collect()),
+    ]
+}
+
+fn replay() {
+    heading("Replay");
+    for (name, inputs) in &replay_classes() {
+        for (file, sheet) in inputs {
+            assert_eq!(plain::replay(file, sheet), proved::replay(file, sheet), "{name}");
+        }
+        line(name, inputs, |(file, sheet)| plain::replay(file, sheet), |(file, sheet)| proved::replay(file, sheet));
+    }
+}
+
+fn write_classes() -> [(&'static str, Vec<Parts>); 4] {
+    [
+        ("tiny", vec![files::parts(&files::tiny())]),
+        ("typical", vec![files::parts(&files::typical())]),
+        ("largest", vec![files::parts(&files::largest())]),
+        ("refused early", files::refused_parts()),
+    ]
+}
+
+fn write() {
+    heading("Writer");
+    for (name, inputs) in &write_classes() {
+        let (mut out, mut other) = (vec![7; 8000], vec![7; 8000]);
+        for p in inputs {
+            let expected = plain::write(p.n, &p.bodies, &p.lengths, &mut out[..p.room]);
+            assert_eq!(expected, proved::write(p.n, &p.bodies, &p.lengths, &mut other[..p.room]), "{name}");
+            assert!(out == other, "{name}");
+        }
+        line(
+            name,
+            inputs,
+            |p| plain::write(p.n, &p.bodies, &p.lengths, &mut out[..p.room]),
+            |p| proved::write(p.n, &p.bodies, &p.lengths, &mut other[..p.room]),
+        );
+    }
+}
+
+/// The inputs that are to be refused fail the checks that they are made for.
+fn refused_as_meant() {
+    let failed: Vec<u8> = files::refused_early().iter().map(|f| plain::replay(f, &[]).unwrap_err().0).collect();
+    assert_eq!(failed, [2, 3, 4, 5, 6, 7, 8, 9, 10]);
+    let file = files::refused_states();
+    assert_eq!(plain::states(&file, files::last_task(&file), &mut [0; 24832]), Err((11, 7)));
+    let file = files::largest();
+    let failed: Vec<u8> = files::refused_sheets().iter().map(|s| plain::replay(&file, s).unwrap_err().0).collect();
+    assert_eq!(failed, [12, 13]);
+    let failed: Vec<u8> = files::refused_parts()
+        .iter()
+        .map(|p| plain::write(p.n, &p.bodies, &p.lengths, &mut vec![0; p.room]).unwrap_err().0)
+        .collect();
+    assert_eq!(failed, [5, 6, 7, 8, 9, 10, 14]);
+}
+
+/// The other inputs are accepted, and the writer gives back the files that its parts are made from.
+fn accepted_as_meant() {
+    let files = [files::tiny(), files::typical(), files::largest()];
+    let sheets = [files::tiny_sheet(), files::typical_sheet(), files::largest_sheet()];
+    for (file, sheet) in files.iter().zip(&sheets) {
+        let (without, with) = plain::replay(file, sheet).unwrap();
+        assert!(without < with);
+        plain::states(file, files::last_task(file), &mut [0; 24832]).unwrap();
+        let (parts, mut out) = (files::parts(file), vec![0; file.len()]);
+        assert_eq!(plain::write(parts.n, &parts.bodies, &parts.lengths, &mut out), Ok(file.len()));
+        assert_eq!(&out, file);
+    }
+}
+
+fn main() {
+    refused_as_meant();
+    accepted_as_meant();
+    table();
+    println!();
+    states();
+    println!();
+    replay();
+    println!();
+    write();
+}

@@ -1,0 +1,203 @@
+//! The calls the plain way: vectors, ordered sets and work lists, as one would write them in an afternoon.
+//! Here stands what they share: the reader and the states of a task.
+mod replay;
+mod states;
+mod table;
+mod write;
+
+pub use replay::replay;
+pub use states::states;
+pub use table::table;
+pub use write::write;
+
+use std::collections::BTreeSet;
+
+const NOTHING: u16 = 65535;
+const MOST_STATES: usize = 32;
+
+/// The check that fails first and the task it names.
+pub type Refusal = (u8, u8);
+type Row = Vec<u16>;
+
+struct Block {
+    successors: Vec<usize>,
+    references: Vec<u16>,
+}
+
+type Task = Vec<Block>;
+
+fn number(bytes: &[u8], at: usize) -> usize {
+    bytes[at] as usize + 256 * bytes[at + 1] as usize
+}
+
+/// The task of a body, or none if the body breaks its layout.
+fn decode(body: &[u8]) -> Option<Task> {
+    let count = *body.first()? as usize;
+    if count < 1 || 24 < count || *body.get(1)? != 0 {
+        return None;
+    }
+    let mut task = Vec::new();
+    let mut at = 2;
+    for _ in 0..count {
+        let head = body.get(at..at + 3)?;
+        let (successors, references) = (head[1] as usize, head[2] as usize);
+        if head[0] != 0 || 4 < successors || 16 < references {
+            return None;
+        }
+        at += 3;
+        let jumps: Vec<usize> = body.get(at..at + successors)?.iter().map(|&b| b as usize).collect();
+        at += successors;
+        let bytes = body.get(at..at + 2 * references)?;
+        at += 2 * references;
+        let blocks: Vec<u16> = bytes.chunks(2).map(|b| b[0] as u16 + 256 * b[1] as u16).collect();
+        if jumps.windows(2).any(|w| w[1] <= w[0]) || jumps.iter().any(|&b| count <= b) || blocks.contains(&NOTHING) {
+            return None;
+        }
+        task.push(Block { successors: jumps, references: blocks });
+    }
+    if at == body.len() { Some(task) } else { None }
+}
+
+/// The blocks that are met when every block that is met adds the blocks that it leads to.
+fn met(count: usize, from: usize, leads: impl Fn(usize) -> Vec<usize>) -> Vec<bool> {
+    let mut found = vec![false; count];
+    let mut waiting = vec![from];
+    found[from] = true;
+    while let Some(b) = waiting.pop() {
+        for c in leads(b) {
+            if !found[c] {
+                found[c] = true;
+                waiting.push(c);
+            }
+        }
+    }
+    found
+}
+
+fn predecessors(task: &Task) -> Vec<Vec<usize>> {
+    let mut back = vec![Vec::new(); task.len()];
+    for (b, block) in task.iter().enumerate() {
+        for &c in &block.successors {
+            back[c].push(b);
+        }
+    }
+    back
+}
+
+fn all_on_paths(task: &Task) -> bool {
+    let back = predecessors(task);
+    let forth = met(task.len(), 0, |b| task[b].successors.clone());
+    let leading = met(task.len(), task.len() - 1, |b| back[b].clone());
+    (0..task.len()).all(|b| forth[b] && leading[b])
+}
+
+/// Checks 2 to 10: n and the tasks of a file.
+fn read(file: &[u8]) -> Result<(usize, Vec<Task>), Refusal> {
+    if file.len() < 8 || 7544 < file.len() {
+        return Err((2, 255));
+    }
+    if &file[..4] != b"CRPD" {
+        return Err((3, 255));
+    }
+    if file[4] != 1 {
+        return Err((4, 255));
+    }
+    let (n, t) = (file[5] as usize, file[6] as usize);
+    if n < 1 || 16 < n {
+        return Err((5, 255));
+    }
+    if t < 1 || 8 < t || file[7] != 0 {
+        return Err((6, 255));
+    }
+    let bodies = contents(file, t).ok_or((7, 255))?;
+    Ok((n, tasks(&bodies)?))
+}
+
+/// The bodies of a file, or none if its contents don't name them one after the other up to the file's end.
+fn contents(file: &[u8], t: usize) -> Option<Vec<&[u8]>> {
+    let mut at = 8 + 4 * t;
+    if file.len() < at {
+        return None;
+    }
+    let mut bodies = Vec::new();
+    for j in 0..t {
+        let (offset, length) = (number(file, 8 + 4 * j), number(file, 10 + 4 * j));
+        if offset != at {
+            return None;
+        }
+        bodies.push(file.get(at..at + length)?);
+        at += length;
+    }
+    if at == file.len() { Some(bodies) } else { None }
+}
+
+/// Checks 8 to 10: the tasks of some bodies.
+fn tasks(bodies: &[&[u8]]) -> Result<Vec<Task>, Refusal> {
+    let mut tasks = Vec::new();
+    for (j, body) in bodies.iter().enumerate() {
+        tasks.push(decode(body).ok_or((8, j as u8))?);
+    }
+    for (j, task) in tasks.iter().enumerate() {
+        if !all_on_paths(task) {
+            return Err((9, j as u8));
+        }
+    }
+    let mut seen = BTreeSet::new();
+    for (j, task) in tasks.iter().enumerate() {
+        let own: BTreeSet<u16> = task.iter().flat_map(|b| b.references.iter().copied()).collect();
+        if own.iter().any(|m| seen.contains(m)) {
+            return Err((10, j as u8));
+        }
+        seen.extend(own);
+    }
+    Ok(tasks)
+}
+
+/// The rows of each block, gathered from one row; none where a block has more than 32.
+fn gather(count: usize, first: (usize, Row), next: impl Fn(usize, &Row) -> Vec<(usize, Row)>) -> Option<Vec<BTreeSet<Row>>> {
+    let mut rows = vec![BTreeSet::new(); count];
+    rows[first.0].insert(first.1.clone());
+    let mut waiting = vec![first];
+    while let Some((b, row)) = waiting.pop() {
+        for (c, new) in next(b, &row) {
+            if rows[c].insert(new.clone()) {
+                if MOST_STATES < rows[c].len() {
+                    return None;
+                }
+                waiting.push((c, new));
+            }
+        }
+    }
+    Some(rows)
+}
+
+fn after(n: usize, row: &Row, block: &Block) -> Row {
+    let mut row = row.clone();
+    for &m in &block.references {
+        row[m as usize % n] = m;
+    }
+    row
+}
+
+fn before(n: usize, row: &Row, block: &Block) -> Row {
+    let mut row = row.clone();
+    for &m in block.references.iter().rev() {
+        row[m as usize % n] = m;
+    }
+    row
+}
+
+fn reaching(n: usize, task: &Task) -> Option<Vec<BTreeSet<Row>>> {
+    let empty = vec![NOTHING; n];
+    gather(task.len(), (0, after(n, &empty, &task[0])), |b, row| {
+        task[b].successors.iter().map(|&c| (c, after(n, row, &task[c]))).collect()
+    })
+}
+
+fn live(n: usize, task: &Task) -> Option<Vec<BTreeSet<Row>>> {
+    let back = predecessors(task);
+    gather(task.len(), (task.len() - 1, vec![NOTHING; n]), |b, row| {
+        let new = before(n, row, &task[b]);
+        back[b].iter().map(|&c| (c, new.clone())).collect()
+    })
+}

@@ -1,0 +1,105 @@
+//! Replay the plain way.
+use super::{read, Refusal, Task, NOTHING};
+
+struct Preemption<'a> {
+    point: usize,
+    task: usize,
+    path: &'a [u16],
+}
+
+struct Run<'a> {
+    task: usize,
+    path: &'a [u16],
+    preemptions: Vec<Preemption<'a>>,
+}
+
+/// The misses of a run without and with its preemptions.
+#[inline(never)]
+pub fn replay(file: &[u8], sheet: &[u16]) -> Result<(u32, u32), Refusal> {
+    let (n, tasks) = read(file)?;
+    let run = parse(sheet, tasks.len()).ok_or((12, 255))?;
+    let all_complete = complete(&tasks[run.task], run.path)
+        && run.preemptions.iter().all(|p| complete(&tasks[p.task], p.path));
+    if !all_complete {
+        return Err((13, 255));
+    }
+    Ok((misses(n, &tasks, &run, &[]), misses(n, &tasks, &run, &run.preemptions)))
+}
+
+/// The first number of the rest of a sheet.
+fn take(rest: &mut &[u16]) -> Option<usize> {
+    let (first, others) = rest.split_first()?;
+    *rest = others;
+    Some(*first as usize)
+}
+
+/// A path: its length and its blocks.
+fn take_path<'a>(rest: &mut &'a [u16]) -> Option<&'a [u16]> {
+    let length = take(rest)?;
+    if length < 1 || 64 < length || rest.len() < length {
+        return None;
+    }
+    let (path, others) = rest.split_at(length);
+    *rest = others;
+    Some(path)
+}
+
+/// The run of a sheet for a file with t tasks, or none if the sheet breaks its rules (check 12).
+fn parse(sheet: &[u16], t: usize) -> Option<Run<'_>> {
+    let mut rest = sheet;
+    let task = take(&mut rest)?;
+    let path = take_path(&mut rest)?;
+    let count = take(&mut rest)?;
+    if t <= task || 16 < count {
+        return None;
+    }
+    let mut preemptions = Vec::with_capacity(count);
+    let mut last = 0;
+    for _ in 0..count {
+        let point = take(&mut rest)?;
+        let other = take(&mut rest)?;
+        if point < last || path.len() <= point || t <= other || other == task {
+            return None;
+        }
+        preemptions.push(Preemption { point, task: other, path: take_path(&mut rest)? });
+        last = point;
+    }
+    if rest.is_empty() { Some(Run { task, path, preemptions }) } else { None }
+}
+
+/// Whether a path goes from the entry to the end of its task.
+fn complete(task: &Task, path: &[u16]) -> bool {
+    path.iter().all(|&b| (b as usize) < task.len())
+        && path[0] == 0
+        && path[path.len() - 1] as usize == task.len() - 1
+        && path.windows(2).all(|w| task[w[0] as usize].successors.contains(&(w[1] as usize)))
+}
+
+/// Makes the references of a block; answers how many of them miss.
+fn make(row: &mut [u16], references: &[u16]) -> u32 {
+    let mut count = 0;
+    for &m in references {
+        let place = &mut row[m as usize % row.len()];
+        if *place != m {
+            *place = m;
+            count += 1;
+        }
+    }
+    count
+}
+
+/// The misses of the run's own references with these preemptions.
+fn misses(n: usize, tasks: &[Task], run: &Run, preemptions: &[Preemption]) -> u32 {
+    let mut row = vec![NOTHING; n];
+    let mut count = 0;
+    let mut coming = preemptions.iter().peekable();
+    for (position, &b) in run.path.iter().enumerate() {
+        count += make(&mut row, &tasks[run.task][b as usize].references);
+        while let Some(p) = coming.next_if(|p| p.point == position) {
+            for &c in p.path {
+                make(&mut row, &tasks[p.task][c as usize].references);
+            }
+        }
+    }
+    count
+}

@@ -1,0 +1,66 @@
+//! Table the plain way.
+use super::{live, reaching, read, Refusal, Row, NOTHING};
+use std::collections::BTreeSet;
+
+fn useful(reached: &Row, next: &Row) -> u32 {
+    let mut set = 0;
+    for c in 0..reached.len() {
+        if reached[c] == next[c] && reached[c] != NOTHING {
+            set |= 1 << c;
+        }
+    }
+    set
+}
+
+fn used(row: &Row) -> u32 {
+    let mut set = 0;
+    for (c, &m) in row.iter().enumerate() {
+        if m != NOTHING {
+            set |= 1 << c;
+        }
+    }
+    set
+}
+
+/// The most cache blocks that are useful in some block of one task and in one of the sets of the other.
+fn pair_number(reached: &[BTreeSet<Row>], lived: &[BTreeSet<Row>], sets: &BTreeSet<u32>) -> u32 {
+    let mut most = 0;
+    for b in 0..reached.len() {
+        for r in &reached[b] {
+            for l in &lived[b] {
+                let u = useful(r, l);
+                for v in sets {
+                    most = most.max((u & v).count_ones());
+                }
+            }
+        }
+    }
+    most
+}
+
+/// The pair numbers of a file, by 8 i + j; the work area is there for the lengths' sake alone.
+#[inline(never)]
+pub fn table(file: &[u8], area: &mut [u16], numbers: &mut [u16]) -> Result<(), Refusal> {
+    if area.len() != 24832 || numbers.len() != 64 {
+        return Err((1, 255));
+    }
+    let (n, tasks) = read(file)?;
+    let mut states = Vec::new();
+    for (j, task) in tasks.iter().enumerate() {
+        match (reaching(n, task), live(n, task)) {
+            (Some(r), Some(l)) => states.push((r, l)),
+            _ => return Err((11, j as u8)),
+        }
+    }
+    numbers.fill(0);
+    for (i, (reached, lived)) in states.iter().enumerate() {
+        for (j, (other, _)) in states.iter().enumerate() {
+            if i == j {
+                continue;
+            }
+            let sets: BTreeSet<u32> = other[tasks[j].len() - 1].iter().map(used).collect();
+            numbers[8 * i + j] = pair_number(reached, lived, &sets) as u16;
+        }
+    }
+    Ok(())
+}

@@ -1,0 +1,413 @@
+//! Files and run sheets from a seed: valid ones of all shapes, and ones damaged in each check's way.
+use crate::independent::{complete, pack, Block, Task};
+
+/// xorshift, so that a seed gives the same cases everywhere.
+pub struct Random(u64);
+
+impl Random {
+    pub fn new(seed: u64) -> Random {
+        Random((seed + 1).wrapping_mul(0x9E37_79B9_7F4A_7C15))
+    }
+
+    fn next(&mut self) -> u64 {
+        self.0 ^= self.0 << 13;
+        self.0 ^= self.0 >> 7;
+        self.0 ^= self.0 << 17;
+        self.0 >> 11
+    }
+
+    pub fn below(&mut self, bound: usize) -> usize {
+        (self.next() % bound as u64) as usize
+    }
+
+    pub fn one_in(&mut self, bound: usize) -> bool {
+        self.below(bound) == 0
+    }
+
+    pub fn pick<T: Copy>(&mut self, list: &[T]) -> T {
+        list[self.below(list.len())]
+    }
+}
+
+pub struct Made {
+    pub n: u8,
+    pub tasks: Vec<Task>,
+}
+
+pub fn encode(task: &Task) -> Vec<u8> {
+    let mut body = vec![task.len() as u8, 0];
+    for block in task {
+        body.extend([0, block.successors.len() as u8, block.references.len() as u8]);
+        body.extend(block.successors.iter().map(|&next| next as u8));
+        body.extend(block.references.iter().flat_map(|m| m.to_le_bytes()));
+    }
+    body
+}
+
+impl Made {
+    pub fn bodies(&self) -> Vec<Vec<u8>> {
+        self.tasks.iter().map(encode).collect()
+    }
+
+    pub fn file(&self) -> Vec<u8> {
+        packed(self.n, &self.bodies())
+    }
+}
+
+fn packed(n: u8, bodies: &[Vec<u8>]) -> Vec<u8> {
+    pack(n, &bodies.iter().map(Vec::as_slice).collect::<Vec<_>>())
+}
+
+fn block(successors: &[usize], references: &[u16]) -> Block {
+    Block { successors: successors.to_vec(), references: references.to_vec() }
+}
+
+/// A graph with forks and loops; each block lies on a complete path.
+fn graph(random: &mut Random) -> Task {
+    // small graphs are as frequent as large ones
+    let most = random.pick(&[1, 3, 8, 24]);
+    let blocks = 1 + random.below(most);
+    let extra = random.below(4);
+    loop {
+        let mut task = Task::new();
+        for b in 0..blocks {
+            let mut successors: Vec<usize> = (0..random.below(extra + 1)).map(|_| random.below(blocks)).collect();
+            if b + 1 < blocks && !random.one_in(8) {
+                successors.push(b + 1);
+            }
+            successors.sort();
+            successors.dedup();
+            task.push(Block { successors, references: Vec::new() });
+        }
+        if complete(&task) {
+            return task;
+        }
+    }
+}
+
+/// The references of task i lie in a range of its own.
+fn with_references(random: &mut Random, mut task: Task, i: usize) -> Task {
+    let most = random.pick(&[1, 2, 5, 17]);
+    let span = random.pick(&[1, 3, 8, 20, 8191]);
+    for block in &mut task {
+        let count = random.below(most);
+        block.references = (0..count).map(|_| (8191 * i + random.below(span)) as u16).collect();
+    }
+    task
+}
+
+/// Forks in a row, each loading one of two memory blocks of its own cache block.
+fn forks(count: usize, n: usize, first: usize) -> Task {
+    let mut task = Task::new();
+    for k in 0..count {
+        let b = 3 * k;
+        task.push(block(&[b + 1, b + 2], &[]));
+        for side in 0..2 {
+            task.push(block(&[b + 3], &[(first + k % n + side * n) as u16]));
+        }
+    }
+    task.push(block(&[], &[]));
+    task
+}
+
+/// Which states a task of two layers has many of.
+#[derive(Clone, Copy)]
+enum Many {
+    Both,
+    Reaching,
+    Live,
+}
+
+/// One of `wide` memory blocks of one cache block and then one of `narrow` of another: wide times narrow states.
+fn layers(wide: usize, narrow: usize, n: usize, first: usize, many: Many) -> Task {
+    let load = |side: usize, k: usize| {
+        let (own, common) = ((first + side + n * (k + 1)) as u16, (first + side) as u16);
+        match many {
+            Many::Both => vec![own],
+            Many::Reaching => vec![common, own],
+            Many::Live => vec![own, common],
+        }
+    };
+    let join = 4 + wide;
+    let mut task = vec![block(&[1, 2, 3], &[])];
+    for group in 0..3 {
+        let leaves: Vec<usize> = (0..wide).filter(|k| k % 3 == group).map(|k| 4 + k).collect();
+        task.push(block(&leaves, &[]));
+    }
+    task.extend((0..wide).map(|k| block(&[join], &load(0, k))));
+    task.push(block(&(join + 1..=join + narrow).collect::<Vec<_>>(), &[]));
+    task.extend((0..narrow).map(|k| block(&[join + narrow + 1], &load(1, k))));
+    task.push(block(&[], &[]));
+    task
+}
+
+fn task(random: &mut Random, n: usize, i: usize) -> Task {
+    // the ranges of tasks begin at multiples of 8,191
+    let first = 8191 * i + (n - 8191 * i % n) % n;
+    match random.below(12) {
+        0 if n >= 6 => forks(5 + random.below(2), n, first),
+        1 if n >= 2 => {
+            let many = random.pick(&[Many::Both, Many::Reaching, Many::Live]);
+            layers(8 + random.below(5), 3 + random.below(2), n, first, many)
+        }
+        _ => {
+            let graph = graph(random);
+            with_references(random, graph, i)
+        }
+    }
+}
+
+/// The longest file: 7,544 bytes.
+pub fn longest() -> Made {
+    let whole = |i: usize, b: usize| Block {
+        successors: (0..3).chain([(b + 1).clamp(3, 23)]).collect(),
+        references: (0..16).map(|k| (1000 * i + k) as u16).collect(),
+    };
+    Made { n: 16, tasks: (0..8).map(|i| (0..24).map(|b| whole(i, b)).collect()).collect() }
+}
+
+/// Two tasks of one block each that loop.
+pub fn loops() -> Made {
+    Made { n: 2, tasks: vec![vec![block(&[0], &[0, 1])], vec![block(&[0], &[2])]] }
+}
+
+/// A sheet of that file: `length` blocks, and `count` preemptions of `other` blocks each.
+pub fn loop_sheet(length: usize, count: usize, other: usize) -> Vec<u16> {
+    let mut sheet = [vec![0, length as u16], vec![0; length], vec![count as u16]].concat();
+    for k in 0..count {
+        sheet.extend([k.min(length - 1) as u16, 1, other as u16]);
+        sheet.extend(vec![0; other]);
+    }
+    sheet
+}
+
+/// A file that passes the checks 2 to 10.
+pub fn made(random: &mut Random) -> Made {
+    let n = 1 + random.below(16);
+    let t = 1 + random.below(8);
+    let mut tasks: Vec<Task> = (0..t).map(|i| task(random, n, i)).collect();
+    if random.one_in(8) {
+        // the highest memory block
+        let chosen = random.below(t);
+        if let Some(last) = tasks[chosen].iter_mut().find_map(|block| block.references.last_mut()) {
+            *last = 65534;
+        }
+    }
+    Made { n: n as u8, tasks }
+}
+
+/// How many ways there are to damage a file.
+pub const DAMAGES: usize = 24;
+
+/// The file with one fault, of the kind asked for where it has room for that.
+pub fn damaged(random: &mut Random, made: &Made, kind: usize) -> Vec<u8> {
+    let mut file = made.file();
+    let mut bodies = made.bodies();
+    let chosen = random.below(bodies.len());
+    match kind {
+        0..=9 => damage_head(random, &mut file, made.tasks.len(), kind),
+        10..=17 => {
+            damage_body(random, &made.tasks[chosen], &mut bodies[chosen], kind);
+            file = packed(made.n, &bodies);
+        }
+        18 => {
+            // all memory blocks of another task
+            bodies[chosen] = random.pick(&bodies.iter().collect::<Vec<_>>()).clone();
+            file = packed(made.n, &bodies);
+        }
+        19..=22 => {
+            bodies[chosen] = encode(&with_fault(random, &made.tasks[chosen], kind, chosen));
+            file = packed(made.n, &bodies);
+        }
+        _ => {
+            for _ in 0..1 + random.below(3) {
+                let place = random.below(file.len());
+                file[place] = random.pick(&[0, 1, 2, 255, file[place] ^ 1, file[place].wrapping_add(1)]);
+            }
+        }
+    }
+    file
+}
+
+/// Faults for the checks 2 to 7.
+fn damage_head(random: &mut Random, file: &mut Vec<u8>, t: usize, kind: usize) {
+    let bit = 1 << random.below(8);
+    match kind {
+        0 => file.truncate(random.below(9)),
+        1 => file.resize(7543 + random.below(4), 0),
+        2 => file[random.below(4)] ^= bit,
+        3 => file[4] = random.pick(&[0, 2, 255]),
+        4 => file[5] = random.pick(&[0, 17, 255]),
+        5 => file[6] = random.pick(&[0, 9, 255]),
+        6 => file[7] = bit,
+        7 => file[8 + random.below(4 * t)] ^= bit,
+        8 => file.truncate(8 + random.below(file.len() - 8)),
+        _ => file.push(0),
+    }
+}
+
+/// Faults for check 8, in the bytes of a body.
+fn damage_body(random: &mut Random, task: &Task, body: &mut Vec<u8>, kind: usize) {
+    let chosen = random.below(task.len());
+    let start = block_starts(task)[chosen];
+    let Block { successors, references } = &task[chosen];
+    match kind {
+        10 => body[0] = random.pick(&[0, 25, 255, body[0] - 1, body[0] + 1]),
+        11 => body[1] = 1,
+        12 => body[start + random.below(3)] ^= 1 << random.below(6),
+        13 => body.truncate(random.below(body.len())),
+        14 => body.push(0),
+        15 if !successors.is_empty() => {
+            body[start + 3 + random.below(successors.len())] = random.pick(&[0, 23, 24, 255, body[0], body[0] - 1]);
+        }
+        // two equal successors, or two that fall
+        16 if successors.len() > 1 => body[start + 4] = body[start + 3].saturating_sub(random.below(2) as u8),
+        17 if !references.is_empty() => {
+            let place = start + 3 + successors.len() + 2 * random.below(references.len());
+            body[place..place + 2].fill(255);
+        }
+        _ => {}
+    }
+}
+
+/// The task with a block on no complete path, or with as many references, successors or blocks as it may have or one more.
+fn with_fault(random: &mut Random, task: &Task, kind: usize, i: usize) -> Task {
+    let mut task = task.clone();
+    let over = random.below(2);
+    let chosen = random.below(task.len());
+    match kind {
+        19 if over == 0 => task.push(block(&[], &[])),
+        19 => task[chosen].successors.clear(),
+        20 => task[chosen].references = vec![8191 * i as u16; 16 + over],
+        21 if task.len() > 4 => task[chosen].successors = (0..4 + over).collect(),
+        _ => {
+            while task.len() < 24 + over {
+                let last = task.len() - 1;
+                task[last].successors = vec![last + 1];
+                task.push(block(&[], &[]));
+            }
+        }
+    }
+    task
+}
+
+/// Where the blocks of a body begin in it.
+fn block_starts(task: &Task) -> Vec<usize> {
+    let mut at = 2;
+    let mut starts = Vec::new();
+    for block in task {
+        starts.push(at);
+        at += 3 + block.successors.len() + 2 * block.references.len();
+    }
+    starts
+}
+
+/// A complete path of at most 64 blocks: some steps at random, and then a shortest way to the end.
+fn path(random: &mut Random, task: &Task) -> Vec<u16> {
+    let end = task.len() - 1;
+    let mut far = vec![usize::MAX; task.len()];
+    far[end] = 0;
+    for _ in 0..task.len() {
+        for b in 0..end {
+            let nearest = task[b].successors.iter().map(|&next| far[next].saturating_add(1)).min();
+            far[b] = nearest.unwrap_or(usize::MAX);
+        }
+    }
+    let wandering = random.below(41);
+    let mut blocks = vec![0];
+    loop {
+        let last = blocks[blocks.len() - 1];
+        let successors = &task[last].successors;
+        if last == end && (blocks.len() > wandering || successors.is_empty()) {
+            return blocks.iter().map(|&b| b as u16).collect();
+        }
+        let next = if blocks.len() < wandering {
+            random.pick(successors)
+        } else {
+            *successors.iter().min_by_key(|&&next| far[next]).unwrap_or(&end)
+        };
+        blocks.push(next);
+    }
+}
+
+/// A run sheet that Replay accepts, and the preempting task of each preemption.
+pub fn sheet(random: &mut Random, tasks: &[Task]) -> (Vec<u16>, Vec<usize>) {
+    let p = random.below(tasks.len());
+    let own = path(random, &tasks[p]);
+    let count = if tasks.len() == 1 { 0 } else { random.below(17) };
+    let mut points: Vec<u16> = (0..count).map(|_| random.below(own.len()) as u16).collect();
+    points.sort();
+    let mut sheet = vec![p as u16, own.len() as u16];
+    sheet.extend(own);
+    sheet.push(count as u16);
+    let mut preempting = Vec::new();
+    for point in points {
+        let j = (p + 1 + random.below(tasks.len() - 1)) % tasks.len();
+        let blocks = path(random, &tasks[j]);
+        sheet.extend([point, j as u16, blocks.len() as u16]);
+        sheet.extend(blocks);
+        preempting.push(j);
+    }
+    (sheet, preempting)
+}
+
+/// The sheet with one fault, and the check that is at fault.
+pub fn damaged_sheet(random: &mut Random, tasks: &[Task], sheet: &[u16]) -> (Vec<u16>, u8) {
+    let mut broken = sheet.to_vec();
+    let length = sheet[1] as usize;
+    if sheet[2 + length] > 0 && random.one_in(2) {
+        return damaged_preemption(random, tasks, sheet);
+    }
+    let (place, number, check) = match random.below(8) {
+        0 => {
+            broken.truncate(random.below(sheet.len()));
+            return (broken, 12);
+        }
+        1 => {
+            broken.push(0);
+            return (broken, 12);
+        }
+        2 => (0, random.pick(&[tasks.len() as u16, 8, 65535]), 12),
+        3 => (1, random.pick(&[0, 65, 65535]), 12),
+        4 => (2 + length, random.pick(&[17, 65535]), 12),
+        5 => (2 + random.below(length), random.pick(&[24, 256, 65535]), 13),
+        6 => (1 + length, tasks[sheet[0] as usize].len() as u16, 13),
+        // a path that doesn't begin in block 0
+        _ => (2, 1, 13),
+    };
+    broken[place] = number;
+    (broken, check)
+}
+
+/// The same, with the fault in the first two preemptions.
+fn damaged_preemption(random: &mut Random, tasks: &[Task], sheet: &[u16]) -> (Vec<u16>, u8) {
+    let mut broken = sheet.to_vec();
+    let length = sheet[1] as usize;
+    let first = 3 + length;
+    let second = first + 3 + sheet[first + 2] as usize;
+    let (place, number, check) = match random.below(6) {
+        0 => (first, random.pick(&[length as u16, 64, 65535]), 12),
+        1 => (first + 1, sheet[0], 12),
+        2 => (first + 1, random.pick(&[tasks.len() as u16, 8, 65535]), 12),
+        3 => (first + 2, random.pick(&[0, 65, 65535]), 12),
+        4 if second < sheet.len() && sheet[second] > 0 => {
+            // a point below the one before it
+            broken[first] = sheet[second];
+            (second, sheet[second] - 1, 12)
+        }
+        _ => (first + 3, random.pick(&[1, 24, 256, 65535]), 13),
+    };
+    broken[place] = number;
+    (broken, check)
+}
+
+/// The sheet with one to three numbers changed; it may still be valid.
+pub fn changed_sheet(random: &mut Random, sheet: &[u16]) -> Vec<u16> {
+    let mut changed = sheet.to_vec();
+    for _ in 0..1 + random.below(3) {
+        let place = random.below(sheet.len());
+        let number = changed[place];
+        changed[place] = random.pick(&[0, 1, 2, 3, 64, 65535, number.wrapping_add(1), number.wrapping_sub(1)]);
+    }
+    changed
+}

@@ -1,0 +1,406 @@
+//! Document 01 once more, in plain Rust: by paths, and with sets of rows. Written from the document alone, to compare with.
+use std::collections::BTreeSet;
+
+pub const AREA: usize = 24832;
+const NOTHING: u16 = 65535;
+const LIVE: usize = 12288;
+const COUNTS: usize = 24576;
+
+/// The check that fails first, and the task that it names.
+pub type Refusal = (u8, u8);
+pub type Row = [u16; 16];
+
+#[derive(Clone)]
+pub struct Block {
+    pub successors: Vec<usize>,
+    pub references: Vec<u16>,
+}
+
+pub type Task = Vec<Block>;
+
+pub struct Project {
+    pub n: usize,
+    pub tasks: Vec<Task>,
+    /// Offset and length of each body.
+    pub places: Vec<(usize, usize)>,
+}
+
+/// The reaching and the live rows of each block.
+pub struct States {
+    pub reaching: Vec<BTreeSet<Row>>,
+    pub live: Vec<BTreeSet<Row>>,
+}
+
+fn number(bytes: &[u8], at: usize) -> usize {
+    bytes[at] as usize + 256 * bytes[at + 1] as usize
+}
+
+/// A body that keeps its layout, block by block.
+fn decode(body: &[u8]) -> Option<Task> {
+    let mut bytes = body.iter().map(|&byte| byte as usize);
+    let blocks = bytes.next()?;
+    if !(1..=24).contains(&blocks) || bytes.next()? != 0 {
+        return None;
+    }
+    let mut task = Task::new();
+    for _ in 0..blocks {
+        let (flags, successor_count, reference_count) = (bytes.next()?, bytes.next()?, bytes.next()?);
+        if flags != 0 || successor_count > 4 || reference_count > 16 {
+            return None;
+        }
+        let mut successors = Vec::new();
+        for _ in 0..successor_count {
+            let next = bytes.next()?;
+            if next >= blocks || successors.last().is_some_and(|&last| next <= last) {
+                return None;
+            }
+            successors.push(next);
+        }
+        let mut references = Vec::new();
+        for _ in 0..reference_count {
+            let memory_block = bytes.next()? + 256 * bytes.next()?;
+            if memory_block == 65535 {
+                return None;
+            }
+            references.push(memory_block as u16);
+        }
+        task.push(Block { successors, references });
+    }
+    bytes.next().is_none().then_some(task)
+}
+
+/// The blocks on paths from `start`, where `steps` gives the blocks that may come next.
+fn on_paths(start: usize, steps: impl Fn(usize) -> Vec<usize>) -> BTreeSet<usize> {
+    let mut seen = BTreeSet::from([start]);
+    let mut left = vec![start];
+    while let Some(block) = left.pop() {
+        for next in steps(block) {
+            if seen.insert(next) {
+                left.push(next);
+            }
+        }
+    }
+    seen
+}
+
+fn predecessors(task: &Task, block: usize) -> Vec<usize> {
+    (0..task.len()).filter(|&before| task[before].successors.contains(&block)).collect()
+}
+
+/// Every block lies on a complete path.
+pub fn complete(task: &Task) -> bool {
+    let from_entry = on_paths(0, |block| task[block].successors.clone());
+    let to_end = on_paths(task.len() - 1, |block| predecessors(task, block));
+    from_entry.len() == task.len() && to_end.len() == task.len()
+}
+
+fn memory_blocks(task: &Task) -> BTreeSet<u16> {
+    task.iter().flat_map(|block| block.references.clone()).collect()
+}
+
+/// Checks 8, 9 and 10.
+fn decode_all(bodies: &[&[u8]]) -> Result<Vec<Task>, Refusal> {
+    let mut tasks = Vec::new();
+    for (i, body) in bodies.iter().enumerate() {
+        tasks.push(decode(body).ok_or((8, i as u8))?);
+    }
+    if let Some(i) = tasks.iter().position(|task| !complete(task)) {
+        return Err((9, i as u8));
+    }
+    let used: Vec<_> = tasks.iter().map(memory_blocks).collect();
+    let shares = |j: usize| (0..j).any(|i| !used[i].is_disjoint(&used[j]));
+    if let Some(j) = (0..tasks.len()).find(|&j| shares(j)) {
+        return Err((10, j as u8));
+    }
+    Ok(tasks)
+}
+
+/// Reader: checks 2 to 10.
+pub fn read(file: &[u8]) -> Result<Project, Refusal> {
+    if file.len() < 8 || file.len() > 7544 {
+        return Err((2, 255));
+    }
+    if !file.starts_with(b"CRPD") {
+        return Err((3, 255));
+    }
+    if file[4] != 1 {
+        return Err((4, 255));
+    }
+    let (n, t) = (file[5] as usize, file[6] as usize);
+    if !(1..=16).contains(&n) {
+        return Err((5, 255));
+    }
+    if !(1..=8).contains(&t) || file[7] != 0 {
+        return Err((6, 255));
+    }
+    let mut end = 8 + 4 * t;
+    if file.len() < end {
+        return Err((7, 255));
+    }
+    let mut places = Vec::new();
+    for i in 0..t {
+        let (offset, length) = (number(file, 8 + 4 * i), number(file, 10 + 4 * i));
+        if offset != end {
+            return Err((7, 255));
+        }
+        end += length;
+        places.push((offset, length));
+    }
+    if end != file.len() {
+        return Err((7, 255));
+    }
+    let bodies: Vec<&[u8]> = places.iter().map(|&(offset, length)| &file[offset..offset + length]).collect();
+    Ok(Project { n, tasks: decode_all(&bodies)?, places })
+}
+
+/// Body: where it stands and how long it is.
+pub fn body(file: &[u8], task: usize) -> (usize, usize) {
+    read(file).ok().and_then(|project| project.places.get(task).copied()).unwrap_or((0, 0))
+}
+
+/// All pairs of a block and a row that come from `first` by `steps`; none where a block has 33 rows.
+fn explore(
+    blocks: usize, first: (usize, Row), steps: impl Fn(usize, &Row) -> Vec<(usize, Row)>,
+) -> Option<Vec<BTreeSet<Row>>> {
+    let mut rows = vec![BTreeSet::new(); blocks];
+    let mut left = vec![first];
+    while let Some((block, row)) = left.pop() {
+        if rows[block].insert(row) {
+            if rows[block].len() > 32 {
+                return None;
+            }
+            left.extend(steps(block, &row));
+        }
+    }
+    Some(rows)
+}
+
+/// The states of a task; none by check 11.
+pub fn states(task: &Task, n: usize) -> Option<States> {
+    // a later reference replaces an earlier one
+    let forward = |block: usize, row: &Row| {
+        let mut after = *row;
+        for &m in &task[block].references {
+            after[m as usize % n] = m;
+        }
+        after
+    };
+    // an earlier reference comes first
+    let backward = |block: usize, row: &Row| {
+        let mut first = *row;
+        for &m in task[block].references.iter().rev() {
+            first[m as usize % n] = m;
+        }
+        first
+    };
+    let empty = [NOTHING; 16];
+    let reaching = explore(task.len(), (0, forward(0, &empty)), |block, row| {
+        task[block].successors.iter().map(|&next| (next, forward(next, row))).collect()
+    })?;
+    let live = explore(task.len(), (task.len() - 1, empty), |block, row| {
+        let first = backward(block, row);
+        predecessors(task, block).into_iter().map(|before| (before, first)).collect()
+    })?;
+    Some(States { reaching, live })
+}
+
+fn put_rows(part: &mut [u16], rows: &BTreeSet<Row>) {
+    for (place, row) in part.chunks_mut(16).zip(rows) {
+        place.copy_from_slice(row);
+    }
+}
+
+/// States: fills the area.
+pub fn fill(file: &[u8], task: usize, area: &mut [u16]) -> Result<(), Refusal> {
+    if area.len() != AREA {
+        return Err((1, 255));
+    }
+    let found = read(file).and_then(|project| {
+        let asked = project.tasks.get(task).ok_or((15, 255))?;
+        states(asked, project.n).ok_or((11, task as u8))
+    });
+    area.fill(0);
+    let states = found?;
+    area[..COUNTS].fill(NOTHING);
+    for (b, rows) in states.reaching.iter().enumerate() {
+        put_rows(&mut area[512 * b..512 * (b + 1)], rows);
+        area[COUNTS + b] = rows.len() as u16;
+    }
+    for (b, rows) in states.live.iter().enumerate() {
+        put_rows(&mut area[LIVE + 512 * b..LIVE + 512 * (b + 1)], rows);
+        area[COUNTS + 24 + b] = rows.len() as u16;
+    }
+    Ok(())
+}
+
+/// Row: where it stands and how long it is.
+pub fn row(area: &[u16], live: bool, block: usize, number: usize) -> (usize, usize) {
+    if area.len() != AREA || block >= 24 {
+        return (0, 0);
+    }
+    let (start, counts) = if live { (LIVE, COUNTS + 24) } else { (0, COUNTS) };
+    let count = area[counts + block] as usize;
+    if count > 32 || number >= count {
+        return (0, 0);
+    }
+    (start + (32 * block + number) * 16, 16)
+}
+
+/// The sets of cache blocks that are useful at the end of some block.
+fn useful(states: &States) -> BTreeSet<BTreeSet<usize>> {
+    let mut sets = BTreeSet::new();
+    for (reaching, live) in states.reaching.iter().zip(&states.live) {
+        for held in reaching {
+            for wanted in live {
+                sets.insert((0..16).filter(|&c| held[c] == wanted[c] && held[c] != NOTHING).collect());
+            }
+        }
+    }
+    sets
+}
+
+/// The sets of cache blocks that the task may use.
+fn used(states: &States) -> BTreeSet<BTreeSet<usize>> {
+    let ends = states.reaching.last().into_iter().flatten();
+    ends.map(|row| (0..16).filter(|&c| row[c] != NOTHING).collect()).collect()
+}
+
+/// Table: the pair numbers.
+pub fn table(file: &[u8], area_length: usize, table: &mut [u16]) -> Result<(), Refusal> {
+    if area_length != AREA || table.len() != 64 {
+        return Err((1, 255));
+    }
+    let project = read(file)?;
+    let mut all = Vec::new();
+    for (i, task) in project.tasks.iter().enumerate() {
+        all.push(states(task, project.n).ok_or((11, i as u8))?);
+    }
+    table.fill(0);
+    let useful: Vec<_> = all.iter().map(useful).collect();
+    let used: Vec<_> = all.iter().map(used).collect();
+    for i in 0..all.len() {
+        for j in (0..all.len()).filter(|&j| j != i) {
+            let common = |a: &BTreeSet<usize>| used[j].iter().map(|b| a.intersection(b).count()).max();
+            table[8 * i + j] = useful[i].iter().filter_map(common).max().unwrap_or(0) as u16;
+        }
+    }
+    Ok(())
+}
+
+/// A file of bodies that were not looked at.
+pub fn pack(n: u8, bodies: &[&[u8]]) -> Vec<u8> {
+    let mut file = vec![0x43, 0x52, 0x50, 0x44, 1, n, bodies.len() as u8, 0];
+    let mut offset = 8 + 4 * bodies.len();
+    for body in bodies {
+        file.extend((offset as u16).to_le_bytes());
+        file.extend((body.len() as u16).to_le_bytes());
+        offset += body.len();
+    }
+    file.extend(bodies.concat());
+    file
+}
+
+/// Writer: the length of the file that is put to the front of `out`.
+pub fn write(n: u8, joined: &[u8], lengths: &[usize], out: &mut [u8]) -> Result<usize, Refusal> {
+    if !(1..=16).contains(&n) {
+        return Err((5, 255));
+    }
+    if !(1..=8).contains(&lengths.len()) {
+        return Err((6, 255));
+    }
+    if lengths.iter().map(|&length| length as u128).sum::<u128>() != joined.len() as u128 {
+        return Err((7, 255));
+    }
+    let mut bodies = Vec::new();
+    let mut rest = joined;
+    for &length in lengths {
+        let (body, after) = rest.split_at(length);
+        bodies.push(body);
+        rest = after;
+    }
+    decode_all(&bodies)?;
+    let file = pack(n, &bodies);
+    let front = out.get_mut(..file.len()).ok_or((14, 255))?;
+    front.copy_from_slice(&file);
+    Ok(file.len())
+}
+
+/// A path of a sheet: a task and its blocks.
+struct Path {
+    task: usize,
+    blocks: Vec<u16>,
+}
+
+struct Sheet {
+    run: Path,
+    preemptions: Vec<(u16, Path)>,
+}
+
+/// Check 12: the sheet, read to its last number.
+fn read_sheet(sheet: &[u16], t: usize) -> Option<Sheet> {
+    let mut numbers = sheet.iter().copied();
+    let path = |numbers: &mut dyn Iterator<Item = u16>| {
+        let task = numbers.next().filter(|&task| (task as usize) < t)? as usize;
+        let length = numbers.next().filter(|length| (1..=64).contains(length))?;
+        let blocks = (0..length).map(|_| numbers.next()).collect::<Option<Vec<u16>>>()?;
+        Some(Path { task, blocks })
+    };
+    let run = path(&mut numbers)?;
+    let count = numbers.next().filter(|&count| count <= 16)?;
+    let mut preemptions = Vec::new();
+    let mut last = 0;
+    for _ in 0..count {
+        let point = numbers.next().filter(|&point| last <= point && (point as usize) < run.blocks.len())?;
+        let preempting = path(&mut numbers).filter(|path| path.task != run.task)?;
+        preemptions.push((point, preempting));
+        last = point;
+    }
+    numbers.next().is_none().then_some(Sheet { run, preemptions })
+}
+
+fn is_complete_path(path: &Path, tasks: &[Task]) -> bool {
+    let task = &tasks[path.task];
+    let inside = path.blocks.iter().all(|&block| (block as usize) < task.len());
+    inside
+        && path.blocks[0] == 0
+        && path.blocks.last().is_some_and(|&block| block as usize == task.len() - 1)
+        && path.blocks.windows(2).all(|pair| task[pair[0] as usize].successors.contains(&(pair[1] as usize)))
+}
+
+/// Makes the references of a block on the cache; how many of them miss.
+fn misses(cache: &mut Row, block: &Block, n: usize) -> u32 {
+    let mut count = 0;
+    for &m in &block.references {
+        let held = &mut cache[m as usize % n];
+        if *held != m {
+            *held = m;
+            count += 1;
+        }
+    }
+    count
+}
+
+fn run(project: &Project, path: &Path, preemptions: &[(u16, Path)]) -> u32 {
+    let mut cache = [NOTHING; 16];
+    let mut count = 0;
+    for (position, &block) in path.blocks.iter().enumerate() {
+        count += misses(&mut cache, &project.tasks[path.task][block as usize], project.n);
+        for (_, preempting) in preemptions.iter().filter(|(point, _)| *point as usize == position) {
+            for &block in &preempting.blocks {
+                misses(&mut cache, &project.tasks[preempting.task][block as usize], project.n);
+            }
+        }
+    }
+    count
+}
+
+/// Replay: U and D.
+pub fn replay(file: &[u8], sheet: &[u16]) -> Result<(u32, u32), Refusal> {
+    let project = read(file)?;
+    let sheet = read_sheet(sheet, project.tasks.len()).ok_or((12, 255))?;
+    let preempting = sheet.preemptions.iter().map(|(_, path)| path);
+    if !preempting.chain([&sheet.run]).all(|path| is_complete_path(path, &project.tasks)) {
+        return Err((13, 255));
+    }
+    Ok((run(&project, &sheet.run, &[]), run(&project, &sheet.run, &sheet.preemptions)))
+}

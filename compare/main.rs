@@ -1,0 +1,400 @@
+//! Compares each proved call with the independent implementation, on files made from seeds.
+mod generate;
+mod independent;
+mod wrapper;
+
+use generate::{
+    changed_sheet, damaged, damaged_sheet, longest, loop_sheet, loops, made, sheet, Made, Random, DAMAGES,
+};
+use independent::{Block, AREA};
+use std::collections::BTreeMap;
+use std::fmt::Debug;
+
+const FILES: u64 = 3000;
+/// What lent lists hold before a call, so that a kept place can be told from a written one.
+const OLD_BYTE: u8 = 0xA5;
+const OLD_NUMBER: u16 = 0xA55A;
+const OLD_WIDE: u32 = 0xA55A_A55A;
+const OLD_COUNT: usize = 0xA55A_A55A;
+
+/// How many cases each call met by check, and the smallest difference.
+#[derive(Default)]
+struct Report {
+    cases: BTreeMap<&'static str, BTreeMap<u8, usize>>,
+    differences: usize,
+    smallest: Option<(usize, String)>,
+}
+
+impl Report {
+    /// One case: `faults` are the places where the proved call and the independent one differ.
+    fn add(&mut self, call: &'static str, check: u8, file: &[u8], arguments: String, faults: Vec<Option<String>>) {
+        *self.cases.entry(call).or_default().entry(check).or_default() += 1;
+        let faults: Vec<String> = faults.into_iter().flatten().collect();
+        if faults.is_empty() {
+            return;
+        }
+        self.differences += 1;
+        if self.smallest.as_ref().is_none_or(|(length, _)| file.len() < *length) {
+            let hex: Vec<String> = file.iter().map(|byte| format!("{byte:02X}")).collect();
+            let text = format!("{call} {arguments}\n  {}\n  file: {}", faults.join("\n  "), hex.join(" "));
+            self.smallest = Some((file.len(), text));
+        }
+    }
+
+    fn print(&self) {
+        println!("cases by the check that was answered (0: done)");
+        for (call, checks) in &self.cases {
+            let counts: Vec<String> = checks.iter().map(|(check, count)| format!("{check}: {count}")).collect();
+            println!("{call:12} {:7}   {}", checks.values().sum::<usize>(), counts.join(", "));
+        }
+        match &self.smallest {
+            None => println!("no differences"),
+            Some((_, text)) => println!("{} differences; the smallest:\n{text}", self.differences),
+        }
+    }
+}
+
+/// The first place where two lists differ.
+fn differ<T: PartialEq + Debug>(name: &str, expected: &[T], found: &[T]) -> Option<String> {
+    if expected.len() != found.len() {
+        return Some(format!("{name}: length {} expected, {} found", expected.len(), found.len()));
+    }
+    let place = expected.iter().zip(found).position(|(a, b)| a != b)?;
+    Some(format!("{name}[{place}]: {:?} expected, {:?} found", expected[place], found[place]))
+}
+
+/// The status of an answer, and the task that it names.
+fn told<T>(answer: &Result<T, independent::Refusal>) -> (u8, u8) {
+    answer.as_ref().err().copied().unwrap_or((0, 255))
+}
+
+fn compare_read(report: &mut Report, file: &[u8], places: usize) {
+    let mut found = vec![OLD_BYTE; places];
+    let status = wrapper::read(file, &mut found);
+    let mut expected = vec![OLD_BYTE; places];
+    let mut check = 1;
+    if places == 3 {
+        let answer = independent::read(file);
+        let (n, t) = answer.as_ref().map_or((0, 0), |project| (project.n as u8, project.tasks.len() as u8));
+        check = told(&answer).0;
+        expected = vec![told(&answer).1, n, t];
+    }
+    let faults = vec![differ("status", &[check], &[status]), differ("answer", &expected, &found)];
+    report.add("crpd_read", check, file, format!("answer of {places}"), faults);
+}
+
+fn compare_body(report: &mut Report, file: &[u8], task: usize, places: usize) {
+    let mut found = vec![OLD_COUNT; places];
+    let status = wrapper::body(file, task, &mut found);
+    let (mut check, mut expected) = (1, vec![OLD_COUNT; places]);
+    if places == 2 {
+        let (offset, length) = independent::body(file, task);
+        check = 0;
+        expected = vec![offset, length];
+    }
+    let faults = vec![differ("status", &[check], &[status]), differ("found", &expected, &found)];
+    report.add("crpd_body", check, file, format!("task {task}, found of {places}"), faults);
+}
+
+/// The area that the call left is handed back.
+fn compare_states(report: &mut Report, file: &[u8], task: usize, length: usize, places: usize) -> Vec<u16> {
+    let mut area = vec![OLD_NUMBER; length];
+    let mut named = vec![OLD_BYTE; places];
+    let status = wrapper::states(file, task, &mut area, &mut named);
+    let mut expected_area = vec![OLD_NUMBER; length];
+    let (mut check, mut expected_named) = (1, vec![OLD_BYTE; places]);
+    if places == 1 {
+        let answer = independent::fill(file, task, &mut expected_area);
+        check = told(&answer).0;
+        expected_named = vec![told(&answer).1];
+    }
+    let faults = vec![
+        differ("status", &[check], &[status]),
+        differ("named", &expected_named, &named),
+        differ("area", &expected_area, &area),
+    ];
+    report.add("crpd_states", check, file, format!("task {task}, area of {length}, named of {places}"), faults);
+    area
+}
+
+fn compare_row(report: &mut Report, area: &[u16], live: u8, block: usize, number: usize, places: usize) {
+    let mut found = vec![OLD_COUNT; places];
+    let status = wrapper::row(area, live, block, number, &mut found);
+    let (mut check, mut expected) = (1, vec![OLD_COUNT; places]);
+    if places == 2 {
+        let (offset, length) = independent::row(area, live != 0, block, number);
+        check = 0;
+        expected = vec![offset, length];
+    }
+    let faults = vec![differ("status", &[check], &[status]), differ("found", &expected, &found)];
+    let counts = area.get(AREA - 256..AREA - 208).unwrap_or(&[]);
+    let arguments = format!(
+        "area of {}, live {live}, block {block}, number {number}, found of {places}, counts {counts:?}",
+        area.len()
+    );
+    report.add("crpd_row", check, &[], arguments, faults);
+}
+
+/// The work area is free afterwards, so it isn't compared. The table that the call left is handed back.
+fn compare_table(report: &mut Report, file: &[u8], length: usize, numbers: usize, places: usize) -> Vec<u16> {
+    let mut area = vec![OLD_NUMBER; length];
+    let mut table = vec![OLD_NUMBER; numbers];
+    let mut named = vec![OLD_BYTE; places];
+    let status = wrapper::table(file, &mut area, &mut table, &mut named);
+    let mut expected_table = vec![OLD_NUMBER; numbers];
+    let (mut check, mut expected_named) = (1, vec![OLD_BYTE; places]);
+    if places == 1 {
+        let answer = independent::table(file, length, &mut expected_table);
+        check = told(&answer).0;
+        expected_named = vec![told(&answer).1];
+    }
+    let faults = vec![
+        differ("status", &[check], &[status]),
+        differ("named", &expected_named, &named),
+        differ("table", &expected_table, &table),
+    ];
+    let arguments = format!("area of {length}, table of {numbers}, named of {places}");
+    report.add("crpd_table", check, file, arguments, faults);
+    table
+}
+
+fn compare_write(report: &mut Report, n: u8, joined: &[u8], lengths: &[usize], room: usize, places: usize) {
+    let mut out = vec![OLD_BYTE; room];
+    let mut found = vec![OLD_COUNT; places];
+    let status = wrapper::write(n, joined, lengths, &mut out, &mut found);
+    let mut expected_out = vec![OLD_BYTE; room];
+    let (mut check, mut expected) = (1, vec![OLD_COUNT; places]);
+    if places == 2 {
+        let answer = independent::write(n, joined, lengths, &mut expected_out);
+        let (status, named) = told(&answer);
+        check = status;
+        expected = vec![named as usize, answer.unwrap_or(0)];
+    }
+    let faults = vec![
+        differ("status", &[check], &[status]),
+        differ("answer", &expected, &found),
+        differ("out", &expected_out, &out),
+    ];
+    let arguments = format!("n {n}, lengths {lengths:?}, out of {room}, answer of {places}, the bodies as the file");
+    report.add("crpd_write", check, joined, arguments, faults);
+}
+
+/// Every call that takes a file, with lists of the right length.
+fn compare_file(report: &mut Report, file: &[u8], task: usize) {
+    compare_read(report, file, 3);
+    compare_body(report, file, task, 2);
+    compare_states(report, file, task, AREA, 1);
+    compare_table(report, file, AREA, 64, 1);
+}
+
+/// Every call, with one list of a wrong length or more.
+fn compare_lengths(report: &mut Report, file: &[u8]) {
+    for places in [0, 1, 2, 4, 5] {
+        compare_read(report, file, places);
+    }
+    for places in [0, 1, 3, 4] {
+        compare_body(report, file, 0, places);
+    }
+    for length in [0, AREA - 1, AREA + 1] {
+        for places in [0, 1, 2] {
+            compare_states(report, file, 0, length, places);
+        }
+        compare_table(report, file, length, 64, 1);
+        compare_table(report, file, length, 63, 1);
+    }
+    for numbers in [0, 63, 65] {
+        compare_table(report, file, AREA, numbers, 1);
+    }
+    for places in [0, 2, 3] {
+        compare_states(report, file, 0, AREA, places);
+        compare_table(report, file, AREA, 64, places);
+    }
+}
+
+/// Rows of an area that States left, and of areas with counts of any kind.
+fn compare_rows(report: &mut Report, random: &mut Random, area: &[u16]) {
+    let mut changed = area.to_vec();
+    for count in &mut changed[AREA - 256..AREA - 208] {
+        *count = random.pick(&[*count, 0, 1, 31, 32, 33, 65535]);
+    }
+    let longer = [area, &[0]].concat();
+    for area in [area, &changed, &area[..AREA - 1], &longer, &[]] {
+        for _ in 0..12 {
+            let live = random.pick(&[0, 1, 2, 255]);
+            let block = random.pick(&[0, 1, 2, 3, 22, 23, 24, 25, usize::MAX]);
+            let number = random.pick(&[0, 1, 2, 3, 30, 31, 32, 33, usize::MAX]);
+            let places = random.pick(&[0, 1, 2, 2, 2, 2, 3]);
+            compare_row(report, area, live, block, number, places);
+        }
+    }
+}
+
+/// Every row of an area that may be asked for, and those next to them.
+fn compare_all_rows(report: &mut Report, area: &[u16]) {
+    for live in [0, 1] {
+        for block in 0..26 {
+            for number in 0..35 {
+                compare_row(report, area, live, block, number, 2);
+            }
+        }
+    }
+}
+
+/// The writer on the bodies of a file, and with each argument changed.
+fn compare_writing(report: &mut Report, random: &mut Random, made: &Made) {
+    let bodies = made.bodies();
+    let joined = bodies.concat();
+    let lengths: Vec<usize> = bodies.iter().map(Vec::len).collect();
+    let whole = 8 + 4 * lengths.len() + joined.len();
+    for room in [0, whole - 1, whole, whole + 1, whole + 100] {
+        compare_write(report, made.n, &joined, &lengths, room, 2);
+    }
+    for places in [0, 1, 3] {
+        compare_write(report, made.n, &joined, &lengths, whole, places);
+    }
+    for n in [0, 17, 255] {
+        compare_write(report, n, &joined, &lengths, whole, 2);
+    }
+    compare_write(report, made.n, &joined, &[], whole, 2);
+    compare_write(report, made.n, &joined, &[1; 9], whole, 2);
+    // sums that are wrong, also by 2 to the 64
+    compare_write(report, made.n, &joined[1..], &lengths, whole, 2);
+    compare_write(report, made.n, &joined, &[usize::MAX, joined.len() + 1], whole, 2);
+    // bodies cut elsewhere, and an empty one
+    let cut = random.below(joined.len() + 1);
+    compare_write(report, made.n, &joined, &[cut, joined.len() - cut], whole, 2);
+    if lengths.len() < 8 {
+        compare_write(report, made.n, &joined, &[lengths.as_slice(), &[0]].concat(), whole, 2);
+    }
+}
+
+/// The writer on the bodies of a damaged file.
+fn compare_broken_bodies(report: &mut Report, made: &Made, broken: &[u8]) {
+    let t = made.tasks.len();
+    let Some(joined) = broken.get(8 + 4 * t..) else { return };
+    let lengths: Vec<usize> =
+        (0..t).map(|i| broken[10 + 4 * i] as usize + 256 * broken[11 + 4 * i] as usize).collect();
+    compare_write(report, made.n, joined, &lengths, broken.len(), 2);
+}
+
+/// The answer that the call left is handed back.
+fn compare_replay(report: &mut Report, file: &[u8], sheet: &[u16], places: usize) -> Vec<u32> {
+    let mut found = vec![OLD_WIDE; places];
+    let status = wrapper::replay(file, sheet, &mut found);
+    let (mut check, mut expected) = (1, vec![OLD_WIDE; places]);
+    if places == 3 {
+        let answer = independent::replay(file, sheet);
+        let (alone, disturbed) = answer.unwrap_or((0, 0));
+        check = told(&answer).0;
+        expected = vec![told(&answer).1 as u32, alone, disturbed];
+    }
+    let faults = vec![differ("status", &[check], &[status]), differ("answer", &expected, &found)];
+    report.add("crpd_replay", check, file, format!("sheet {sheet:?}, answer of {places}"), faults);
+    found
+}
+
+/// Runs of a file by the proved replay, valid and broken ones; none misses more than the proved table allows.
+fn compare_runs(report: &mut Report, random: &mut Random, made: &Made, file: &[u8], table: &[u16]) {
+    let (sheet, preempting) = sheet(random, &made.tasks);
+    let answer = compare_replay(report, file, &sheet, 3);
+    // a table that was refused keeps what it held
+    if table[0] == 0 {
+        let p = sheet[0] as usize;
+        let allowed: u32 = preempting.iter().map(|&j| table[8 * p + j] as u32).sum();
+        let kept = answer[1] <= answer[2] && answer[2] <= answer[1] + allowed;
+        let fault = (!kept).then(|| format!("{answer:?}, and the table allows {allowed} more"));
+        report.add("D - U", 0, file, format!("{sheet:?}"), vec![fault]);
+    }
+    let (broken, check) = damaged_sheet(random, &made.tasks, &sheet);
+    compare_replay(report, file, &broken, 3);
+    let found = told(&independent::replay(file, &broken));
+    report.add("broken sheet", check, file, format!("{broken:?}"), vec![differ("status", &[(check, 255)], &[found])]);
+    compare_replay(report, file, &changed_sheet(random, &sheet), 3);
+    compare_replay(report, file, &sheet, random.pick(&[0, 1, 2, 4]));
+}
+
+/// Sheets that are right but for a length or a count at its limit or next to it.
+fn compare_sheet_limits(report: &mut Report) {
+    let file = loops().file();
+    for length in [1, 2, 63, 64, 65] {
+        for count in [0, 1, 15, 16, 17] {
+            for other in [1, 63, 64, 65] {
+                compare_replay(report, &file, &loop_sheet(length, count, other), 3);
+            }
+        }
+    }
+}
+
+/// The examples of document 01 hold of the independent implementation.
+fn examples() {
+    let block = |successors: &[usize], references: &[u16]| Block {
+        successors: successors.to_vec(),
+        references: references.to_vec(),
+    };
+    let e = Made { n: 2, tasks: vec![vec![block(&[0], &[0, 1])], vec![block(&[], &[2])]] }.file();
+    assert_eq!(e.len(), 33);
+    let mut table = [7; 64];
+    assert_eq!(independent::table(&e, AREA, &mut table), Ok(()));
+    assert_eq!((table[1], table[8], table.iter().sum::<u16>()), (1, 0, 1));
+    assert_eq!(independent::replay(&e, &[0, 2, 0, 0, 1, 0, 1, 1, 0]), Ok((2, 3)));
+    assert_eq!(independent::replay(&e, &[0, 2, 0, 0, 0]), Ok((2, 2)));
+    assert_eq!(independent::replay(&e, &[0, 2, 0, 0, 1, 1, 1, 1, 0]), Ok((2, 2)));
+    assert_eq!(independent::replay(&e, &[0, 0]), Err((12, 255)));
+    assert_eq!(independent::replay(&e, &[0, 1, 5, 0]), Err((13, 255)));
+}
+
+/// A valid file: every call with lists of the right length, every task and some that aren't there.
+fn compare_made(report: &mut Report, random: &mut Random, made: &Made, seed: u64) {
+    let file = made.file();
+    compare_read(report, &file, 3);
+    for task in (0..=made.tasks.len()).chain([8, 256, usize::MAX]) {
+        compare_body(report, &file, task, 2);
+        let area = compare_states(report, &file, task, AREA, 1);
+        if seed % 4 == 0 {
+            compare_rows(report, random, &area);
+        }
+        if seed < 40 {
+            compare_all_rows(report, &area);
+        }
+    }
+    let table = compare_table(report, &file, AREA, 64, 1);
+    for _ in 0..4 {
+        compare_runs(report, random, made, &file, &table);
+    }
+    compare_writing(report, random, made);
+    if seed % 8 == 0 {
+        compare_lengths(report, &file);
+    }
+}
+
+/// The same file with each kind of fault.
+fn compare_damaged(report: &mut Report, random: &mut Random, made: &Made, seed: u64) {
+    for kind in 0..DAMAGES {
+        let broken = damaged(random, made, kind);
+        compare_file(report, &broken, random.below(made.tasks.len() + 1));
+        compare_replay(report, &broken, &sheet(random, &made.tasks).0, 3);
+        compare_broken_bodies(report, made, &broken);
+        if seed % 64 == 0 {
+            compare_lengths(report, &broken);
+        }
+    }
+}
+
+fn main() {
+    examples();
+    let mut report = Report::default();
+    let whole = longest();
+    let file = whole.file();
+    assert_eq!(file.len(), 7544);
+    compare_made(&mut report, &mut Random::new(0), &whole, 0);
+    compare_file(&mut report, &[file.as_slice(), &[0]].concat(), 0);
+    compare_sheet_limits(&mut report);
+    for seed in 0..FILES {
+        let mut random = Random::new(seed);
+        let made = made(&mut random);
+        compare_made(&mut report, &mut random, &made, seed);
+        compare_damaged(&mut report, &mut random, &made, seed);
+    }
+    report.print();
+    std::process::exit(i32::from(report.differences > 0));
+}

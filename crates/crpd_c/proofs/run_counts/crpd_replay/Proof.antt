@@ -1,0 +1,70 @@
+-- `crpd_replay` meets its contract: it answers what Replay answers, in numbers. Assumes nothing.
+-- The idea: the enum's case that the match meets is the answer of Replay.
+use mathlib.Core.Path.{sym, ap, _∙_}
+use mathlib.Core.List.{[], _∷_}
+use Prim.Native.Nat.{ℕ}
+use Rattle.crpd_c.specs.Replay.{statusOfReplaying, numbersOfReplaying}
+use Rattle.crpd_c.proofs.Answers.{wrong, status, leaving}
+use borrow.Author.Needs.{needs}
+use Rattle.crpd_c.proofs.run_counts.crpd_replay.Statement.{statement}
+use Rattle.crpd_c.proofs.run_counts.crpd_replay.Tie as tie
+
+returns : tie.Need-returns
+returns c =
+    let e = wrong 3 (c .before .before .before .before .args .answer .now) (c .if1 .taken) in
+    (rw e, rw e)
+
+replay-requires : tie.Need-replay-requires
+replay-requires c κs = search needs
+
+enum-known-undisturbed : tie.Need-enum-known-undisturbed
+enum-known-undisturbed c = search needs
+
+put-counts-requires : tie.Need-put-counts-requires
+put-counts-requires c κs = search needs
+
+enum-known-check : tie.Need-enum-known-check
+enum-known-check c = search needs
+
+count-requires : tie.Need-count-requires
+count-requires c κs = search needs
+
+put-counts-requires-2 : tie.Need-put-counts-requires-2
+put-counts-requires-2 c κs = search needs
+
+same-length : tie.Need-same-length
+same-length c = search needs
+
+returns-2 : tie.Need-returns-2
+returns-2 c =
+    let answer = c .before .before .before .before .before .before .before .before .before .before .before .before .args .answer .now in
+    let h = c .before .before .before .before .before .before .before .before .if1 .left in
+    let e = sym (c .before .before .before .before .before .before .before .replay .ensures) ∙ c .before .before .before .before .before .undisturbed .given .1 in
+    (status 3 answer h (sym (ap statusOfReplaying e)), leaving 3 answer h answer (c .before .before .put-counts .ensures ∙ sym (ap numbersOfReplaying e)))
+
+same-length-2 : tie.Need-same-length-2
+same-length-2 c = search needs
+
+returns-3 : tie.Need-returns-3
+returns-3 c =
+    let answer = c .before .before .before .before .before .before .before .before .before .before .before .before .before .args .answer .now in
+    let h = c .before .before .before .before .before .before .before .before .before .if1 .left in
+    let e = sym (c .before .before .before .before .before .before .before .before .replay .ensures) ∙ c .before .before .before .before .before .before .check .given .1 in
+    let named = ap (λ (x : ℕ). x ∷ 0 ∷ 0 ∷ []) (c .before .before .before .count .ensures) in
+    (status 3 answer h (sym (ap statusOfReplaying e)), leaving 3 answer h answer (c .before .before .put-counts2 .ensures ∙ named ∙ sym (ap numbersOfReplaying e)))
+
+pub crpd-replay-spec : {M : Type 1} → statement M
+crpd-replay-spec =
+    tie.close
+    (tie.spec
+    returns
+    replay-requires
+    enum-known-undisturbed
+    put-counts-requires
+    enum-known-check
+    count-requires
+    put-counts-requires-2
+    same-length
+    returns-2
+    same-length-2
+    returns-3)

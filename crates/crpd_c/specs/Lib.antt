@@ -1,0 +1,7 @@
+pub mod Places
+pub mod Read
+pub mod States
+pub mod Status
+pub mod Table
+pub mod Write
+pub mod Replay

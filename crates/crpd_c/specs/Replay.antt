@@ -1,0 +1,23 @@
+-- Replay for C. Definitions only.
+use mathlib.Core.List.{List, [], _∷_}
+use Prim.Native.Nat.{ℕ}
+use Rattle.replay.specs.declared.Replaying.{Replaying}
+use Rattle.replay.specs.declared.Replaying.the-variants.{Counted, Refused}
+use Rattle.replay.specs.Replay.{replayingOf}
+use Rattle.crpd_c.specs.Status.{places, pickStatus, pickList}
+
+-- 0 for a sheet that is accepted; a refusal as document 01's number
+abbrev pub statusOfReplaying : Replaying → ℕ
+statusOfReplaying (Counted u d) = 0
+statusOfReplaying (Refused c a) = c
+
+-- the task named, or 255; U and D, 0 and 0 after a refusal
+abbrev pub numbersOfReplaying : Replaying → List ℕ
+numbersOfReplaying (Counted u d) = 255 ∷ u ∷ d ∷ []
+numbersOfReplaying (Refused c a) = a ∷ 0 ∷ 0 ∷ []
+
+abbrev pub replayStatus : List ℕ → List ℕ → List ℕ → ℕ
+replayStatus s sheet answer = pickStatus (places 3 answer) (statusOfReplaying (replayingOf s sheet))
+
+abbrev pub replayLeft : List ℕ → List ℕ → List ℕ → List ℕ
+replayLeft s sheet answer = pickList (places 3 answer) (numbersOfReplaying (replayingOf s sheet)) answer

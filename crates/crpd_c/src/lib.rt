@@ -1,0 +1,42 @@
+// The calls for C: numbers and slices only. A slice is a pointer and a number of elements.
+pub mod body_place;
+pub mod fill;
+mod put;
+pub mod read;
+pub mod row_place;
+pub mod run_counts;
+pub mod write;
+
+ghost use mathlib.Core.Path.{_≡_};
+ghost use lib.ListN.{length};
+ghost use Rattle.crpd_c.specs.Table.{tableStatus, tableLeft, tableNamed};
+use project::answers::Filling;
+use table::table;
+
+// Table: 0, or the check that fails first; `named` gets the task that it names, or 255.
+#[no_mangle]
+pub extern "C" fn crpd_table(
+    file: &[u8],
+    area: &mut [u16],
+    numbers: &mut [u16],
+    named: &mut [u8],
+) -> u8
+    ensures { λ r. ⌜ (r ≡ tableStatus (now (file .entry)) (now (area .entry)) (now (numbers .entry)) (now (named .entry)))
+        × (now (numbers .exit) ≡ tableLeft (now (file .entry)) (now (area .entry)) (now (numbers .entry)) (now (named .entry)))
+        × (now (named .exit) ≡ tableNamed (now (file .entry)) (now (area .entry)) (now (numbers .entry)) (now (named .entry)))
+        × (length (now (area .exit)) ≡ length (now (area .entry))) ⌝ }
+{
+    if named.len() != 1 {
+        return 1;
+    }
+    match table(file, area, numbers) {
+        Filling::Filled => {
+            named[0] = 255;
+            0
+        }
+        Filling::Refused { check, task } => {
+            named[0] = task;
+            check
+        }
+    }
+}

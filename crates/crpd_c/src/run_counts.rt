@@ -1,0 +1,37 @@
+// Replay for C.
+ghost use mathlib.Core.Path.{_≡_};
+ghost use Rattle.crpd_c.specs.Replay.{replayStatus, replayLeft};
+use crate::put::put_counts;
+use replay::Replaying;
+use replay::replay;
+
+// A task's number as a count.
+fn count(x: u8) -> u32
+    ensures { λ r. ⌜ r ≡ x ⌝ }
+{
+    x as u32
+}
+
+// Replay: 0, or the check that fails first; `answer` gets the task that it names (255 if none), U and D (0 and 0 after a refusal).
+#[no_mangle]
+pub extern "C" fn crpd_replay(file: &[u8], sheet: &[u16], answer: &mut [u32]) -> u8
+    ensures { λ r. ⌜ (r ≡ replayStatus (now (file .entry)) (now (sheet .entry)) (now (answer .entry)))
+        × (now (answer .exit) ≡ replayLeft (now (file .entry)) (now (sheet .entry)) (now (answer .entry))) ⌝ }
+{
+    if answer.len() != 3 {
+        return 1;
+    }
+    match replay(file, sheet) {
+        Replaying::Counted {
+            undisturbed,
+            disturbed,
+        } => {
+            put_counts(answer, 255, undisturbed, disturbed);
+            0
+        }
+        Replaying::Refused { check, task } => {
+            put_counts(answer, count(task), 0, 0);
+            check
+        }
+    }
+}

@@ -1,0 +1,41 @@
+// Writer for C.
+ghost use mathlib.Core.Path.{_≡_};
+ghost use Rattle.crpd_c.specs.Write.{writeStatus, writeLeft, writeOut};
+use crate::put::put_two;
+use project::answers::Writing;
+use writer::write;
+
+// A task's number as a count.
+fn count(x: u8) -> usize
+    ensures { λ r. ⌜ r ≡ x ⌝ }
+{
+    x as usize
+}
+
+// Writer: 0, or the check that fails first; `answer` gets the task that it names (255 if none) and the length written (0 after a refusal).
+#[no_mangle]
+pub extern "C" fn crpd_write(
+    n: u8,
+    bodies: &[u8],
+    lengths: &[usize],
+    out: &mut [u8],
+    answer: &mut [usize],
+) -> u8
+    ensures { λ r. ⌜ (r ≡ writeStatus n (now (bodies .entry)) (now (lengths .entry)) (now (out .entry)) (now (answer .entry)))
+        × (now (out .exit) ≡ writeOut n (now (bodies .entry)) (now (lengths .entry)) (now (out .entry)) (now (answer .entry)))
+        × (now (answer .exit) ≡ writeLeft n (now (bodies .entry)) (now (lengths .entry)) (now (out .entry)) (now (answer .entry))) ⌝ }
+{
+    if answer.len() != 2 {
+        return 1;
+    }
+    match write(n, bodies, lengths, out) {
+        Writing::Written { length } => {
+            put_two(answer, 255, length);
+            0
+        }
+        Writing::Refused { check, task } => {
+            put_two(answer, count(task), 0);
+            check
+        }
+    }
+}
