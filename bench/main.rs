@@ -3,6 +3,7 @@ mod files;
 mod plain;
 mod proved;
 
+use crpd::{AREA_LENGTH, TABLE_LENGTH};
 use files::Parts;
 use std::hint::black_box;
 use std::time::Instant;
@@ -24,26 +25,45 @@ fn measure(mut call: impl FnMut()) -> f64 {
     least
 }
 
-/// The heading of the lines of a call.
-fn heading(call: &str) {
-    println!("{call}, ns a call (the least of nine rounds)");
-    println!("{:16} {:>12} {:>12} {:>8}", "class", "plain Rust", "proved", "ratio");
+/// The lines of one call after the other, and the ratios of all.
+#[derive(Default)]
+struct Lines {
+    call: &'static str,
+    ratios: Vec<(f64, String)>,
 }
 
-/// Measures both versions on all inputs of a class and prints their times.
-fn line<I, A>(name: &str, inputs: &[I], mut plain: impl FnMut(&I) -> A, mut proved: impl FnMut(&I) -> A) {
-    let count = inputs.len() as f64;
-    let slow = measure(|| {
-        for input in inputs {
-            black_box(plain(black_box(input)));
-        }
-    });
-    let quick = measure(|| {
-        for input in inputs {
-            black_box(proved(black_box(input)));
-        }
-    });
-    println!("{name:16} {:12.0} {:12.0} {:8.3}", slow / count, quick / count, quick / slow);
+impl Lines {
+    /// The heading of the lines of a call.
+    fn heading(&mut self, call: &'static str) {
+        self.call = call;
+        println!("{call}, ns a call (the least of nine rounds)");
+        println!("{:16} {:>12} {:>12} {:>8}", "class", "plain Rust", "proved", "ratio");
+    }
+
+    /// Measures both versions on all inputs of a class and prints their times.
+    fn line<I, A>(&mut self, name: &str, inputs: &[I], mut plain: impl FnMut(&I) -> A, mut proved: impl FnMut(&I) -> A) {
+        let count = inputs.len() as f64;
+        let plain_time = measure(|| {
+            for input in inputs {
+                black_box(plain(black_box(input)));
+            }
+        });
+        let proved_time = measure(|| {
+            for input in inputs {
+                black_box(proved(black_box(input)));
+            }
+        });
+        let ratio = proved_time / plain_time;
+        println!("{name:16} {:12.0} {:12.0} {ratio:8.3}", plain_time / count, proved_time / count);
+        self.ratios.push((ratio, format!("{}, {name}", self.call)));
+    }
+
+    /// The least and the greatest ratio.
+    fn print_range(&mut self) {
+        self.ratios.sort_by(|a, b| a.0.total_cmp(&b.0));
+        let ((least, first), (greatest, last)) = (&self.ratios[0], &self.ratios[self.ratios.len() - 1]);
+        println!("proved to plain Rust: from {least:.3} ({first}) to {greatest:.3} ({last})");
+    }
 }
 
 /// The classes of files that Table and States take.
@@ -57,17 +77,17 @@ fn file_classes() -> [(&'static str, Vec<Vec<u8>>); 5] {
     ]
 }
 
-fn table() {
-    heading("Table");
-    let (mut area, mut other_area) = (vec![0; 24832], vec![0; 24832]);
+fn table(lines: &mut Lines) {
+    lines.heading("Table");
+    let (mut area, mut other_area) = (vec![0; AREA_LENGTH], vec![0; AREA_LENGTH]);
     for (name, files) in &file_classes() {
-        let (mut numbers, mut other) = ([7; 64], [7; 64]);
+        let (mut numbers, mut other) = ([7; TABLE_LENGTH], [7; TABLE_LENGTH]);
         for file in files {
             let expected = plain::table(file, &mut area, &mut numbers);
             assert_eq!(expected, proved::table(file, &mut other_area, &mut other), "{name}");
             assert_eq!(numbers, other, "{name}");
         }
-        line(
+        lines.line(
             name,
             files,
             |file| plain::table(file, &mut area, &mut numbers),
@@ -77,9 +97,9 @@ fn table() {
 }
 
 /// States of the last task of each file.
-fn states() {
-    heading("States");
-    let (mut area, mut other) = (vec![0; 24832], vec![0; 24832]);
+fn states(lines: &mut Lines) {
+    lines.heading("States");
+    let (mut area, mut other) = (vec![0; AREA_LENGTH], vec![0; AREA_LENGTH]);
     for (name, files) in &file_classes() {
         for file in files {
             area.fill(7);
@@ -89,7 +109,7 @@ fn states() {
             assert_eq!(expected, proved::states(file, task, &mut other), "{name}");
             assert!(area == other, "{name}");
         }
-        line(
+        lines.line(
             name,
             files,
             |file| plain::states(file, files::last_task(file), &mut area),
@@ -113,13 +133,13 @@ fn replay_classes() -> [(&'static str, Vec<Replayed>); 5] {
     ]
 }
 
-fn replay() {
-    heading("Replay");
+fn replay(lines: &mut Lines) {
+    lines.heading("Replay");
     for (name, inputs) in &replay_classes() {
         for (file, sheet) in inputs {
             assert_eq!(plain::replay(file, sheet), proved::replay(file, sheet), "{name}");
         }
-        line(name, inputs, |(file, sheet)| plain::replay(file, sheet), |(file, sheet)| proved::replay(file, sheet));
+        lines.line(name, inputs, |(file, sheet)| plain::replay(file, sheet), |(file, sheet)| proved::replay(file, sheet));
     }
 }
 
@@ -132,8 +152,8 @@ fn write_classes() -> [(&'static str, Vec<Parts>); 4] {
     ]
 }
 
-fn write() {
-    heading("Writer");
+fn write(lines: &mut Lines) {
+    lines.heading("Writer");
     for (name, inputs) in &write_classes() {
         let (mut out, mut other) = (vec![7; 8000], vec![7; 8000]);
         for p in inputs {
@@ -141,7 +161,7 @@ fn write() {
             assert_eq!(expected, proved::write(p.n, &p.bodies, &p.lengths, &mut other[..p.room]), "{name}");
             assert!(out == other, "{name}");
         }
-        line(
+        lines.line(
             name,
             inputs,
             |p| plain::write(p.n, &p.bodies, &p.lengths, &mut out[..p.room]),
@@ -155,7 +175,7 @@ fn refused_as_meant() {
     let failed: Vec<u8> = files::refused_early().iter().map(|f| plain::replay(f, &[]).unwrap_err().0).collect();
     assert_eq!(failed, [2, 3, 4, 5, 6, 7, 8, 9, 10]);
     let file = files::refused_states();
-    assert_eq!(plain::states(&file, files::last_task(&file), &mut [0; 24832]), Err((11, 7)));
+    assert_eq!(plain::states(&file, files::last_task(&file), &mut [0; AREA_LENGTH]), Err((11, 7)));
     let file = files::largest();
     let failed: Vec<u8> = files::refused_sheets().iter().map(|s| plain::replay(&file, s).unwrap_err().0).collect();
     assert_eq!(failed, [12, 13]);
@@ -173,7 +193,7 @@ fn accepted_as_meant() {
     for (file, sheet) in files.iter().zip(&sheets) {
         let (without, with) = plain::replay(file, sheet).unwrap();
         assert!(without < with);
-        plain::states(file, files::last_task(file), &mut [0; 24832]).unwrap();
+        plain::states(file, files::last_task(file), &mut [0; AREA_LENGTH]).unwrap();
         let (parts, mut out) = (files::parts(file), vec![0; file.len()]);
         assert_eq!(plain::write(parts.n, &parts.bodies, &parts.lengths, &mut out), Ok(file.len()));
         assert_eq!(&out, file);
@@ -183,11 +203,10 @@ fn accepted_as_meant() {
 fn main() {
     refused_as_meant();
     accepted_as_meant();
-    table();
-    println!();
-    states();
-    println!();
-    replay();
-    println!();
-    write();
+    let mut lines = Lines::default();
+    for call in [table, states, replay, write] {
+        call(&mut lines);
+        println!();
+    }
+    lines.print_range();
 }

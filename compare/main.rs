@@ -1,8 +1,8 @@
 //! Compares each proved call with the independent implementation, on files made from seeds.
 mod generate;
 mod independent;
-mod wrapper;
 
+use crpd::{calls, Head, Misses, Refusal};
 use generate::{
     changed_sheet, damaged, damaged_sheet, longest, loop_sheet, loops, made, sheet, Made, Random, DAMAGES,
 };
@@ -10,6 +10,7 @@ use independent::{Block, AREA};
 use std::collections::BTreeMap;
 use std::fmt::Debug;
 
+/// The files that are made if no argument says how many.
 const FILES: u64 = 3000;
 /// What lent lists hold before a call, so that a kept place can be told from a written one.
 const OLD_BYTE: u8 = 0xA5;
@@ -47,9 +48,10 @@ impl Report {
             let counts: Vec<String> = checks.iter().map(|(check, count)| format!("{check}: {count}")).collect();
             println!("{call:12} {:7}   {}", checks.values().sum::<usize>(), counts.join(", "));
         }
+        let all: usize = self.cases.values().flat_map(BTreeMap::values).sum();
         match &self.smallest {
-            None => println!("no differences"),
-            Some((_, text)) => println!("{} differences; the smallest:\n{text}", self.differences),
+            None => println!("no differences in {all} cases"),
+            Some((_, text)) => println!("the smallest difference: {text}\n{} differences in {all} cases", self.differences),
         }
     }
 }
@@ -70,29 +72,34 @@ fn told<T>(answer: &Result<T, independent::Refusal>) -> (u8, u8) {
 
 fn compare_read(report: &mut Report, file: &[u8], places: usize) {
     let mut found = vec![OLD_BYTE; places];
-    let status = wrapper::read(file, &mut found);
+    let status = calls::read(file, &mut found);
     let mut expected = vec![OLD_BYTE; places];
     let mut check = 1;
+    let mut faults = vec![];
     if places == 3 {
-        let answer = independent::read(file);
-        let (n, t) = answer.as_ref().map_or((0, 0), |project| (project.n as u8, project.tasks.len() as u8));
+        let answer = independent::read(file).map(|project| (project.n as u8, project.tasks.len() as u8));
+        let (n, t) = answer.unwrap_or((0, 0));
         check = told(&answer).0;
         expected = vec![told(&answer).1, n, t];
+        let wrapped = crpd::read(file).map(|Head { cache_blocks, tasks }| (cache_blocks, tasks));
+        faults.push(differ("result", &[answer], &[wrapped.map_err(Refusal::numbers)]));
     }
-    let faults = vec![differ("status", &[check], &[status]), differ("answer", &expected, &found)];
+    faults.extend([differ("status", &[check], &[status]), differ("answer", &expected, &found)]);
     report.add("crpd_read", check, file, format!("answer of {places}"), faults);
 }
 
 fn compare_body(report: &mut Report, file: &[u8], task: usize, places: usize) {
     let mut found = vec![OLD_COUNT; places];
-    let status = wrapper::body(file, task, &mut found);
+    let status = calls::body(file, task, &mut found);
     let (mut check, mut expected) = (1, vec![OLD_COUNT; places]);
+    let mut faults = vec![];
     if places == 2 {
         let (offset, length) = independent::body(file, task);
         check = 0;
         expected = vec![offset, length];
+        faults.push(differ("part", &file[offset..offset + length], crpd::body(file, task)));
     }
-    let faults = vec![differ("status", &[check], &[status]), differ("found", &expected, &found)];
+    faults.extend([differ("status", &[check], &[status]), differ("found", &expected, &found)]);
     report.add("crpd_body", check, file, format!("task {task}, found of {places}"), faults);
 }
 
@@ -100,33 +107,38 @@ fn compare_body(report: &mut Report, file: &[u8], task: usize, places: usize) {
 fn compare_states(report: &mut Report, file: &[u8], task: usize, length: usize, places: usize) -> Vec<u16> {
     let mut area = vec![OLD_NUMBER; length];
     let mut named = vec![OLD_BYTE; places];
-    let status = wrapper::states(file, task, &mut area, &mut named);
+    let status = calls::states(file, task, &mut area, &mut named);
     let mut expected_area = vec![OLD_NUMBER; length];
     let (mut check, mut expected_named) = (1, vec![OLD_BYTE; places]);
+    let mut faults = vec![];
     if places == 1 {
         let answer = independent::fill(file, task, &mut expected_area);
         check = told(&answer).0;
         expected_named = vec![told(&answer).1];
+        let wrapped = crpd::states(file, task, &mut vec![OLD_NUMBER; length]);
+        faults.push(differ("result", &[answer], &[wrapped.map_err(Refusal::numbers)]));
     }
-    let faults = vec![
+    faults.extend([
         differ("status", &[check], &[status]),
         differ("named", &expected_named, &named),
         differ("area", &expected_area, &area),
-    ];
+    ]);
     report.add("crpd_states", check, file, format!("task {task}, area of {length}, named of {places}"), faults);
     area
 }
 
 fn compare_row(report: &mut Report, area: &[u16], live: u8, block: usize, number: usize, places: usize) {
     let mut found = vec![OLD_COUNT; places];
-    let status = wrapper::row(area, live, block, number, &mut found);
+    let status = calls::row(area, live, block, number, &mut found);
     let (mut check, mut expected) = (1, vec![OLD_COUNT; places]);
+    let mut faults = vec![];
     if places == 2 {
         let (offset, length) = independent::row(area, live != 0, block, number);
         check = 0;
         expected = vec![offset, length];
+        faults.push(differ("part", &area[offset..offset + length], crpd::row(area, live != 0, block, number)));
     }
-    let faults = vec![differ("status", &[check], &[status]), differ("found", &expected, &found)];
+    faults.extend([differ("status", &[check], &[status]), differ("found", &expected, &found)]);
     let counts = area.get(AREA - 256..AREA - 208).unwrap_or(&[]);
     let arguments = format!(
         "area of {}, live {live}, block {block}, number {number}, found of {places}, counts {counts:?}",
@@ -135,24 +147,30 @@ fn compare_row(report: &mut Report, area: &[u16], live: u8, block: usize, number
     report.add("crpd_row", check, &[], arguments, faults);
 }
 
-/// The work area is free afterwards, so it isn't compared. The table that the call left is handed back.
+/// The work area is free afterwards, so it is compared only where `named` is refused. The table that the call left is
+/// handed back.
 fn compare_table(report: &mut Report, file: &[u8], length: usize, numbers: usize, places: usize) -> Vec<u16> {
     let mut area = vec![OLD_NUMBER; length];
     let mut table = vec![OLD_NUMBER; numbers];
     let mut named = vec![OLD_BYTE; places];
-    let status = wrapper::table(file, &mut area, &mut table, &mut named);
+    let status = calls::table(file, &mut area, &mut table, &mut named);
     let mut expected_table = vec![OLD_NUMBER; numbers];
     let (mut check, mut expected_named) = (1, vec![OLD_BYTE; places]);
+    let mut faults = vec![];
     if places == 1 {
         let answer = independent::table(file, length, &mut expected_table);
         check = told(&answer).0;
         expected_named = vec![told(&answer).1];
+        let wrapped = crpd::table(file, &mut area, &mut vec![OLD_NUMBER; numbers]);
+        faults.push(differ("result", &[answer], &[wrapped.map_err(Refusal::numbers)]));
+    } else {
+        faults.push(differ("area", &vec![OLD_NUMBER; length], &area));
     }
-    let faults = vec![
+    faults.extend([
         differ("status", &[check], &[status]),
         differ("named", &expected_named, &named),
         differ("table", &expected_table, &table),
-    ];
+    ]);
     let arguments = format!("area of {length}, table of {numbers}, named of {places}");
     report.add("crpd_table", check, file, arguments, faults);
     table
@@ -161,20 +179,23 @@ fn compare_table(report: &mut Report, file: &[u8], length: usize, numbers: usize
 fn compare_write(report: &mut Report, n: u8, joined: &[u8], lengths: &[usize], room: usize, places: usize) {
     let mut out = vec![OLD_BYTE; room];
     let mut found = vec![OLD_COUNT; places];
-    let status = wrapper::write(n, joined, lengths, &mut out, &mut found);
+    let status = calls::write(n, joined, lengths, &mut out, &mut found);
     let mut expected_out = vec![OLD_BYTE; room];
     let (mut check, mut expected) = (1, vec![OLD_COUNT; places]);
+    let mut faults = vec![];
     if places == 2 {
         let answer = independent::write(n, joined, lengths, &mut expected_out);
         let (status, named) = told(&answer);
         check = status;
         expected = vec![named as usize, answer.unwrap_or(0)];
+        let wrapped = crpd::write(n, joined, lengths, &mut vec![OLD_BYTE; room]);
+        faults.push(differ("result", &[answer], &[wrapped.map_err(Refusal::numbers)]));
     }
-    let faults = vec![
+    faults.extend([
         differ("status", &[check], &[status]),
         differ("answer", &expected, &found),
         differ("out", &expected_out, &out),
-    ];
+    ]);
     let arguments = format!("n {n}, lengths {lengths:?}, out of {room}, answer of {places}, the bodies as the file");
     report.add("crpd_write", check, joined, arguments, faults);
 }
@@ -280,15 +301,18 @@ fn compare_broken_bodies(report: &mut Report, made: &Made, broken: &[u8]) {
 /// The answer that the call left is handed back.
 fn compare_replay(report: &mut Report, file: &[u8], sheet: &[u16], places: usize) -> Vec<u32> {
     let mut found = vec![OLD_WIDE; places];
-    let status = wrapper::replay(file, sheet, &mut found);
+    let status = calls::replay(file, sheet, &mut found);
     let (mut check, mut expected) = (1, vec![OLD_WIDE; places]);
+    let mut faults = vec![];
     if places == 3 {
         let answer = independent::replay(file, sheet);
         let (alone, disturbed) = answer.unwrap_or((0, 0));
         check = told(&answer).0;
         expected = vec![told(&answer).1 as u32, alone, disturbed];
+        let wrapped = crpd::replay(file, sheet).map(|Misses { undisturbed, disturbed }| (undisturbed, disturbed));
+        faults.push(differ("result", &[answer], &[wrapped.map_err(Refusal::numbers)]));
     }
-    let faults = vec![differ("status", &[check], &[status]), differ("answer", &expected, &found)];
+    faults.extend([differ("status", &[check], &[status]), differ("answer", &expected, &found)]);
     report.add("crpd_replay", check, file, format!("sheet {sheet:?}, answer of {places}"), faults);
     found
 }
@@ -381,6 +405,7 @@ fn compare_damaged(report: &mut Report, random: &mut Random, made: &Made, seed: 
 }
 
 fn main() {
+    let files = std::env::args().nth(1).map_or(FILES, |count| count.parse().expect("the argument is a number of files"));
     examples();
     let mut report = Report::default();
     let whole = longest();
@@ -389,7 +414,7 @@ fn main() {
     compare_made(&mut report, &mut Random::new(0), &whole, 0);
     compare_file(&mut report, &[file.as_slice(), &[0]].concat(), 0);
     compare_sheet_limits(&mut report);
-    for seed in 0..FILES {
+    for seed in 0..files {
         let mut random = Random::new(seed);
         let made = made(&mut random);
         compare_made(&mut report, &mut random, &made, seed);

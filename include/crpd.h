@@ -1,12 +1,22 @@
 /*
- * The proved calls, for C. Link with target/staticlib/libcrpd_c.a (made by "rt staticlib crpd_c").
+ * The proved calls, for C and C++. Link with target/staticlib/libcrpd_c.a, which "rt staticlib crpd_c" makes. It
+ * is built for x86-64 Linux.
  *
- * A list is a pointer and its number of elements. Two lists of one call must not overlap, if the call
- * writes to one of them. The pointer of an empty list may be anything but must not be null.
+ * Lists. A list is a pointer and its number of elements, not of bytes. The pointer is aligned for its element, and
+ * all elements of a list that is only read have been written before. Two lists of one call must not overlap, if the
+ * call writes to one of them. The pointer of a list of 0 elements is never followed and may be null, as that of an
+ * empty std::vector may be. Any other must not be null.
  *
- * Each call answers 0 when it is done, or the number of the check that fails first (1 to 15). A list for an
- * answer (answer, named, found) of another length than the one given here is refused with 1 before anything
- * else, and then no list is written. A task that is named is 0 to 7; 255 stands for none.
+ * Answers. Each call answers 0 when it is done, or the number of the check that fails first, 1 to 15 (below). What
+ * else it has to say stands in its last list (answer, named or found). A last list of another length than the one
+ * named here is refused with 1 before anything else, and then no list is written, the last one too: a caller that
+ * prints a task after that prints what the list held before. After every other answer each place of the last list
+ * is written.
+ *
+ * Threads. The calls keep nothing between them, take nothing from the heap and call nothing outside the archive but
+ * memcpy and memset, so they may run in several threads at once, on lists that no other thread writes meanwhile.
+ * Measured on small and large files alike, crpd_table takes about 21 KiB of stack, crpd_write about 13 KiB and each
+ * other call about 10 KiB at most; no proof bounds it.
  */
 #ifndef CRPD_H
 #define CRPD_H
@@ -18,42 +28,133 @@
 extern "C" {
 #endif
 
-#define CRPD_AREA_LENGTH 24832  /* numbers of a work area */
-#define CRPD_TABLE_LENGTH 64    /* numbers of a table */
-#define CRPD_FILE_LENGTH 7544   /* bytes of the longest file */
+/*
+ * What the calls answer. Checks run in rising number, but for crpd_states; each passes for all tasks before the
+ * next. A check names a task where the table says so, and else CRPD_NO_TASK.
+ *
+ *  No  fails when                                                            names
+ *   1  a work area, a table or the last list is of another length
+ *   2  the file has under 8 or over 7,544 bytes
+ *   3  its first four bytes are not 43 52 50 44 ("CRPD")
+ *   4  the edition is not 1
+ *   5  n, the number of cache blocks, is outside 1 to 16
+ *   6  t, the number of tasks, is outside 1 to 8, or byte 7 is not 0
+ *   7  the contents do not place the bodies one after the other, from
+ *      8 + 4t to the file's end; in crpd_write: the lengths do not add
+ *      up to that of the joined bodies
+ *   8  a body breaks its layout                                              the lowest task at fault
+ *   9  a block of a task is on no complete path                              the lowest task at fault
+ *  10  two tasks share a memory block                                        the lowest that shares with an earlier one
+ *  11  a block has 33 or more reaching or live states                        the lowest task at fault; in crpd_states the
+ *                                                                            task asked for
+ *  12  the run sheet is too short or too long, or a length, a count, a
+ *      task or a point in it is against the rules
+ *  13  a path in the run sheet isn't complete, or names a block that
+ *      isn't there
+ *  14  the out list is shorter than the file
+ *  15  the task is not below t
+ */
+enum crpd_status {
+    CRPD_DONE = 0,
+    CRPD_CHECK_LENGTHS = 1,
+    CRPD_CHECK_FILE_LENGTH = 2,
+    CRPD_CHECK_MARK = 3,
+    CRPD_CHECK_EDITION = 4,
+    CRPD_CHECK_CACHE_BLOCKS = 5,
+    CRPD_CHECK_TASKS = 6,
+    CRPD_CHECK_CONTENTS = 7,
+    CRPD_CHECK_LAYOUT = 8,
+    CRPD_CHECK_COMPLETE_PATHS = 9,
+    CRPD_CHECK_SHARED = 10,
+    CRPD_CHECK_STATES = 11,
+    CRPD_CHECK_SHEET = 12,
+    CRPD_CHECK_SHEET_PATHS = 13,
+    CRPD_CHECK_OUT_LENGTH = 14,
+    CRPD_CHECK_TASK = 15
+};
+
+#define CRPD_NO_TASK 255  /* where a check names no task, and where a call is done */
+
+/* The project file. */
+#define CRPD_FILE_LENGTH 7544  /* bytes of the longest file */
+#define CRPD_BODY_LENGTH 938   /* bytes of the longest body */
+#define CRPD_CACHE_BLOCKS 16   /* the most cache blocks */
+#define CRPD_TASKS 8           /* the most tasks */
+#define CRPD_BLOCKS 24         /* the most basic blocks of a task */
+
+/* The work area: reaching rows, live rows, reaching counts, live counts, zeros. */
+#define CRPD_AREA_LENGTH 24832      /* numbers of a work area */
+#define CRPD_NOTHING 65535          /* in a row: no memory block */
+#define CRPD_ROW_LENGTH 16          /* numbers of a row */
+#define CRPD_BLOCK_ROWS 32          /* rows of a basic block, reaching and live each */
+#define CRPD_LIVE_ROWS 12288        /* where the live rows begin; the reaching rows begin at 0 */
+#define CRPD_REACHING_COUNTS 24576  /* where the 24 reaching counts begin */
+#define CRPD_LIVE_COUNTS 24600      /* where the 24 live counts begin */
+#define CRPD_ZEROS 24624            /* where the 208 zeros begin */
+
+/* The table: the number of task i preempted by task j stands at CRPD_TABLE_WIDTH * i + j. */
+#define CRPD_TABLE_LENGTH 64
+#define CRPD_TABLE_WIDTH 8
+
+/* The run sheet. */
+#define CRPD_PATH_LENGTH 64     /* the most blocks of a path */
+#define CRPD_PREEMPTIONS 16     /* the most preemptions */
+#define CRPD_SHEET_LENGTH 1139  /* numbers of the longest sheet: 67 for the task, and 67 for each preemption */
+
+/* Lengths of the last list of each call. */
+#define CRPD_READ_LENGTH 3    /* answer of crpd_read */
+#define CRPD_PLACE_LENGTH 2   /* found of crpd_body and crpd_row */
+#define CRPD_NAMED_LENGTH 1   /* named of crpd_states and crpd_table */
+#define CRPD_REPLAY_LENGTH 3  /* answer of crpd_replay */
+#define CRPD_WRITE_LENGTH 2   /* answer of crpd_write */
 
 /*
- * Reader: checks 2 to 10 of a file.
- * answer: 3 places: the task named, or 255; n, the cache blocks; t, the tasks. n and t are 0 after a refusal.
+ * Reader: n and t of a file. Checks 2 to 10.
+ * file: its bytes, any number of them.
+ * answer: CRPD_READ_LENGTH places:
+ *   0: the task that the check names, or CRPD_NO_TASK
+ *   1: n, the cache blocks, 1 to 16; 0 after a refusal
+ *   2: t, the tasks, 1 to 8; 0 after a refusal
  */
 uint8_t crpd_read(const uint8_t *file, size_t file_length, uint8_t *answer, size_t answer_length);
 
 /*
- * Body: where a task's body stands in a file. Refuses with nothing but 1.
- * task: any number.
- * found: 2 places: the offset in the file and the length in bytes; 0 and 0 if the file isn't accepted or the
- * task isn't below t.
+ * Body: where a task's body stands in a file. Refuses nothing but a found of another length, with 1.
+ * file: its bytes, any number of them. task: any number.
+ * found: CRPD_PLACE_LENGTH places, both 0 if the file isn't accepted (checks 2 to 10) or the task isn't below t:
+ *   0: the offset of the body in the file
+ *   1: its length in bytes, up to CRPD_BODY_LENGTH
  */
 uint8_t crpd_body(
     const uint8_t *file, size_t file_length, size_t task, size_t *found, size_t found_length);
 
 /*
- * States: the reaching and live states of a task. Checks 1 to 10, 15, and 11 for this task.
- * area: 24,832 places. The row numbered k of block b stands at (32b + k) * 16, live rows the same from 12,288 on;
- * 65,535 is nothing, and fills places n to 15 of a row and rows without a state. From 24,576 on stand 24
- * reaching counts, 24 live counts and 208 zeros. After a refusal every place is 0; an area of another length
- * is refused with 1 and keeps its contents.
- * named: 1 place: the task named, or 255.
+ * States: the reaching and live states of a task. Checks 1 to 10, 15, and then 11 for this task.
+ * file: its bytes, any number of them. task: any number.
+ * area: CRPD_AREA_LENGTH places. One of another length is refused with 1 and keeps its contents. After every other
+ * refusal each place is 0. When the call is done:
+ *   (CRPD_BLOCK_ROWS * b + k) * CRPD_ROW_LENGTH on: the reaching row numbered k of basic block b; its place c has the
+ *     memory block in cache block c or CRPD_NOTHING. Rows rise in dictionary order. Places n to 15, the rows from
+ *     the block's count on and the rows of absent blocks hold CRPD_NOTHING.
+ *   CRPD_LIVE_ROWS + the same: the live row numbered k of basic block b, likewise
+ *   CRPD_REACHING_COUNTS + b: the number of reaching rows of basic block b, 0 for an absent one
+ *   CRPD_LIVE_COUNTS + b: the number of its live rows, 0 for an absent one
+ *   CRPD_ZEROS on: zeros
+ * named: CRPD_NAMED_LENGTH place:
+ *   0: the task that the check names, or CRPD_NO_TASK
  */
 uint8_t crpd_states(
     const uint8_t *file, size_t file_length, size_t task, uint16_t *area, size_t area_length,
     uint8_t *named, size_t named_length);
 
 /*
- * Row: where a row stands in a work area. Refuses with nothing but 1.
- * live: 0 for reaching rows, any other number for live rows. block, number: any numbers.
- * found: 2 places: the offset in the area and the length, 16; 0 and 0 if the area has not 24,832 places, the
- * block is 24 or more, its count is over 32, or the number is not below the count.
+ * Row: where a row stands in a work area. Refuses nothing but a found of another length, with 1.
+ * area: as crpd_states left it; any other contents and lengths are taken too. live: 0 for reaching rows, any other
+ * number for live rows. block, number: any numbers.
+ * found: CRPD_PLACE_LENGTH places, both 0 if the area has not CRPD_AREA_LENGTH places, the block is 24 or more, its
+ * count is over 32, or the number is not below the count:
+ *   0: the offset of the row in the area
+ *   1: its length, CRPD_ROW_LENGTH
  */
 uint8_t crpd_row(
     const uint16_t *area, size_t area_length, uint8_t live, size_t block, size_t number,
@@ -61,10 +162,13 @@ uint8_t crpd_row(
 
 /*
  * Table: the pair numbers of a file. Checks 1 to 11.
- * area: 24,832 places to work in; they may hold anything afterwards.
- * numbers: 64 places: 8i + j gets the number of task i preempted by task j, the diagonal and the places of
- * absent tasks get 0. After a refusal every place keeps its contents.
- * named: 1 place: the task named, or 255.
+ * file: its bytes, any number of them.
+ * area: CRPD_AREA_LENGTH places to work in, which may hold anything before. Where named is of the right length they
+ * may hold anything afterwards, refused or not.
+ * numbers: CRPD_TABLE_LENGTH places, which keep their contents after a refusal. When the call is done:
+ *   CRPD_TABLE_WIDTH * i + j: the number of task i preempted by task j; 0 where i is j or one of them is absent
+ * named: CRPD_NAMED_LENGTH place:
+ *   0: the task that the check names, or CRPD_NO_TASK
  */
 uint8_t crpd_table(
     const uint8_t *file, size_t file_length, uint16_t *area, size_t area_length,
@@ -72,20 +176,34 @@ uint8_t crpd_table(
 
 /*
  * Replay: the misses of a task's own references in a run, from an empty cache. Checks 2 to 10, 12 and 13.
- * sheet: task p; path length 1 to 64; the blocks; preemption count 0 to 16; for each the point (a position in
- * the path, from 0), the task, path length 1 to 64, the blocks. Nothing follows.
- * answer: 3 places: the task named, or 255; U, the misses without the preemptions; D, the misses with them.
- * U and D are 0 after a refusal.
+ * file: its bytes, any number of them.
+ * sheet: any number of places, of which check 12 asks, in this order and with nothing after them:
+ *   task p, below t
+ *   its path's length, 1 to CRPD_PATH_LENGTH
+ *   the path's blocks
+ *   the number of preemptions, 0 to CRPD_PREEMPTIONS
+ *   for each preemption:
+ *     the point: a position in p's path, from 0, after whose block it comes; not below the point before
+ *     the task, below t and not p
+ *     its path's length, 1 to CRPD_PATH_LENGTH
+ *     the path's blocks
+ * answer: CRPD_REPLAY_LENGTH places:
+ *   0: the task that the check names, or CRPD_NO_TASK
+ *   1: U, the misses without the preemptions; 0 after a refusal
+ *   2: D, the misses with them; 0 after a refusal
  */
 uint8_t crpd_replay(
     const uint8_t *file, size_t file_length, const uint16_t *sheet, size_t sheet_length,
     uint32_t *answer, size_t answer_length);
 
 /*
- * Writer: the packed file of some bodies. Checks 5 to 10 and 14.
- * n: the cache blocks. bodies: all bodies, joined. lengths: the length of each body in bytes, 1 to 8 of them.
- * out: its front gets the file; places after the file keep their contents, and all do after a refusal.
- * answer: 2 places: the task named, or 255; the length of the file, 0 after a refusal.
+ * Writer: the packed file of some bodies. Checks 5, 6 (the number of lengths), 7, 8, 9, 10 and 14.
+ * n: the cache blocks. bodies: all bodies, joined. lengths: the length of each body in bytes, 1 to CRPD_TASKS of them.
+ * out: any number of places; CRPD_FILE_LENGTH of them always suffice. When the call is done the file stands at the
+ * front. The places after the file keep their contents, and after a refusal all do.
+ * answer: CRPD_WRITE_LENGTH places:
+ *   0: the task that the check names, or CRPD_NO_TASK
+ *   1: the length of the file in bytes; 0 after a refusal
  */
 uint8_t crpd_write(
     uint8_t n, const uint8_t *bodies, size_t bodies_length, const size_t *lengths, size_t lengths_length,

@@ -1,5 +1,5 @@
 -- Document 01, "Calls": Row. Definitions only.
-use mathlib.Core.Bool.{Bool, true, false, _&&_}
+use mathlib.Core.Bool.{Bool, true, false, _&&_, cond}
 use mathlib.Core.List.{List, []}
 use Prim.Native.Nat.{ℕ, _+_, _*_}
 use lib.Dec.{eqb, ltb, leb}
@@ -22,24 +22,16 @@ abbrev pub hasRow : ℕ → List ℕ → Bool → ℕ → ℕ → Bool
 hasRow w area live b k =
     eqb (length area) (areaLength w) && (ltb b 24 && (leb (countIn w area live b) 32 && ltb k (countIn w area live b)))
 
-abbrev pub pickNumber : Bool → ℕ → ℕ
-pickNumber true x = x
-pickNumber false x = 0
-
-abbrev pub pickPart : Bool → List ℕ → List ℕ
-pickPart true l = l
-pickPart false l = []
-
 -- where the row stands and how long it is; an empty part at 0 where there is none
 abbrev pub rowStart : ℕ → List ℕ → Bool → ℕ → ℕ → ℕ
-rowStart w area live b k = pickNumber (hasRow w area live b k) (kindStart w live + (32 * b + k) * w)
+rowStart w area live b k = cond (hasRow w area live b k) (kindStart w live + (32 * b + k) * w) 0
 
 abbrev pub rowLength : ℕ → List ℕ → Bool → ℕ → ℕ → ℕ
-rowLength w area live b k = pickNumber (hasRow w area live b k) w
+rowLength w area live b k = cond (hasRow w area live b k) w 0
 
 -- "Row hands back the asked row as that part of the area"
 abbrev pub rowPart : ℕ → List ℕ → Bool → ℕ → ℕ → List ℕ
-rowPart w area live b k = pickPart (hasRow w area live b k) (take w (drop (kindStart w live + (32 * b + k) * w) area))
+rowPart w area live b k = cond (hasRow w area live b k) (take w (drop (kindStart w live + (32 * b + k) * w) area)) []
 
 -- the rows of a block in the area, as many as its count says
 abbrev pub rowsIn : ℕ → List ℕ → Bool → ℕ → List (List ℕ)

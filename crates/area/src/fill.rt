@@ -37,7 +37,7 @@ pub fn write_counts(part: &mut [u16], reaching: &[usize], live: &[usize])
     fill_with(&mut part[48..256], 0);
 }
 
-// The rows of an area, both kinds in the order in which they came, are put in dictionary order, and the counts are written.
+// The rows of an area, both kinds in any order, are put in dictionary order, and the counts are written.
 pub fn sort_area(area: &mut [u16], reaching: &[usize], live: &[usize])
     requires { ⌜ (length (now area) ≡ 24832) × Distinct (take 12288 (now area)) (now reaching) × Distinct (take 12288 (drop 12288 (now area))) (now live) ⌝ }
     ensures { λ _. ⌜ now (area .exit) ≡ sortedArea (now (area .entry)) (now (reaching .entry)) (now (live .entry)) ⌝ }

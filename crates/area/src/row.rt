@@ -1,6 +1,6 @@
 // Row: the rows of a filled work area.
 ghost use mathlib.Core.Path.{_≡_};
-ghost use Prim.Native.Nat.{_<_, _≤_};
+ghost use Prim.Native.Nat.{_+_, _*_, _<_, _≤_};
 ghost use lib.ListN.{length};
 ghost use Rattle.area.specs.RowPart.{kindStart, countIn, rowStart, rowLength, rowPart};
 
@@ -9,6 +9,12 @@ pub struct RowPlace {
     pub start: usize,
     pub length: usize,
 }
+
+// The empty part at the area's start, which stands for a row that is not there.
+const NOWHERE: RowPlace = RowPlace {
+    start: 0,
+    length: 0,
+};
 
 // A number of the area as a count.
 fn wide_count(x: u16) -> usize
@@ -38,34 +44,22 @@ fn kind_start(live: bool) -> usize
     0
 }
 
-// Where the asked row stands; an empty part at 0 where there is none.
+// Where the asked row stands; an empty part at the area's start where there is none.
 pub fn row_place(area: &[u16], live: bool, block: usize, number: usize) -> RowPlace
     ensures { λ r. ⌜ (r .start ≡ rowStart 16 (now (area .entry)) live block number) × (r .length ≡ rowLength 16 (now (area .entry)) live block number) ⌝ }
 {
     if area.len() != 24832 {
-        return RowPlace {
-            start: 0,
-            length: 0,
-        };
+        return NOWHERE;
     }
     if 24 <= block {
-        return RowPlace {
-            start: 0,
-            length: 0,
-        };
+        return NOWHERE;
     }
     let count = count_in(area, live, block);
     if 32 < count {
-        return RowPlace {
-            start: 0,
-            length: 0,
-        };
+        return NOWHERE;
     }
     if count <= number {
-        return RowPlace {
-            start: 0,
-            length: 0,
-        };
+        return NOWHERE;
     }
     RowPlace {
         start: kind_start(live) + (32 * block + number) * 16,
@@ -73,9 +67,10 @@ pub fn row_place(area: &[u16], live: bool, block: usize, number: usize) -> RowPl
     }
 }
 
-// Row: the asked row, as that part of the area; an empty part where there is none.
+// Row: the asked row as that part of the area, at its place there (two bytes a number); where there is none, an empty part at the area's start.
 pub fn row(area: &[u16], live: bool, block: usize, number: usize) -> &[u16]
-    ensures { λ r. ⌜ now r ≡ rowPart 16 (now (area .entry)) live block number ⌝ }
+    ensures { λ r. ⌜ (now r ≡ rowPart 16 (now (area .entry)) live block number)
+        × (r .ptr .0 ≡ area .entry .ptr .0) × (r .ptr .1 ≡ area .entry .ptr .1 + rowStart 16 (now (area .entry)) live block number * 2) ⌝ }
 {
     let found = row_place(area, live, block, number);
     let from = found.start;

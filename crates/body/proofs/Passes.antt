@@ -1,7 +1,7 @@
 -- The passes of check 9 in the code's words: a turn of each loop is a step of its definition.
 -- The test of a bit by `1 << b` is `inSet`; what is left of the pass from b on gives what the whole gives from the start.
 use mathlib.Core.Path.{_≡_, refl, sym, ap, _∙_}
-use mathlib.Core.Bool.{Bool, true, false, not, _&&_, _||_}
+use mathlib.Core.Bool.{Bool, true, false, not, _&&_, _||_, cond}
 use mathlib.Core.List.{List, [], _∷_, _++_}
 use Prim.Native.Nat.{ℕ, zero, suc, _+_, _-_, _*_, _%_, _^_, _≤_, _<_}
 use native.Mathlib.Numerals.{add-one}
@@ -11,11 +11,11 @@ use lib.ListN.{length, getD, take}
 use lib.Seq.{take-suc}
 use lib.Bits.{bitAnd, bitOr}
 use borrow.Author.Tests.{eqb-true, eqb-false, eq-eqb, ne-eqb}
-use Rattle.cache.specs.Sum.{pick}
 use Rattle.cache.specs.References.{All}
+use Rattle.cache.specs.Sets.{inSet}
 use Rattle.cache.proofs.Masks.{one-at, bits-with, bits-cong, bits-none}
 use Rattle.model.specs.Lists.{mem}
-use Rattle.body.specs.Jumps.{setOf, inSet, forwardPass, backwardPass, hasBelow}
+use Rattle.body.specs.Jumps.{setOf, forwardPass, backwardPass, hasBelow}
 
 -- ---- the set of a list
 
@@ -63,7 +63,7 @@ module _ (sets : List ℕ) (count b : ℕ) (inside : b < count) (few : count ≤
   pub not-in-set : (set : ℕ) → bitAnd set (1 * 2 ^ b % 2 ^ 32) ≡ 0 → inSet set b ≡ false
   not-in-set set h = ap not (eq-eqb (bitAnd set (2 ^ b)) 0 (ap (bitAnd set) (sym word) ∙ h))
 
-  forward-step : (set : ℕ) → forwardPass sets (count - b) b set ≡ forwardPass sets (count - (b + 1)) (b + 1) (pick (inSet set b) (bitOr set (getD sets b 0)) set)
+  forward-step : (set : ℕ) → forwardPass sets (count - b) b set ≡ forwardPass sets (count - (b + 1)) (b + 1) (cond (inSet set b) (bitOr set (getD sets b 0)) set)
   unfolding forwardPass
   forward-step set = rw (left, add-one b)
 
@@ -75,7 +75,7 @@ module _ (sets : List ℕ) (count b : ℕ) (inside : b < count) (few : count ≤
   forward-out set h e = sym (forward-step set ∙ rw (not-in-set set h, e))
 
   backward-step : (set : ℕ)
-      → backwardPass sets (count - b) b set ≡ backwardPass sets (count - (b + 1)) (b + 1) (pick (not (eqb (bitAnd (getD sets b 0) set) 0)) (bitOr set (2 ^ b)) set)
+      → backwardPass sets (count - b) b set ≡ backwardPass sets (count - (b + 1)) (b + 1) (cond (not (eqb (bitAnd (getD sets b 0) set) 0)) (bitOr set (2 ^ b)) set)
   unfolding backwardPass
   backward-step set = rw (left, add-one b)
 

@@ -2,7 +2,7 @@
 -- The idea: a pass only adds blocks that the paths reach; where it adds none, the set is closed under the jumps.
 use mathlib.Core.Path.{_≡_, refl, sym, ap, ap₂, _∙_}
 use mathlib.Core.Logic.{_⊎_, inl, inr}
-use mathlib.Core.Bool.{Bool, true, false, not, _&&_, _||_, true≢false, false≢true}
+use mathlib.Core.Bool.{Bool, true, false, not, _&&_, _||_, true≢false, false≢true, cond}
 use mathlib.Core.List.{List, [], _∷_, _++_, map}
 use Prim.Native.Nat.{ℕ, zero, suc, _+_, _*_, _-_, _%_, _^_, _≤_, _<_}
 use native.Mathlib.Nat.{pow-suc, le-refl, le-trans, not-suc-le-zero}
@@ -13,8 +13,7 @@ use lib.Bits.{bitAnd, bitOr, or-add-and, and-le-r, and-zero-l, or-lt}
 use lib.Pow.{pow-mono, pow-pos}
 use Rattle.cache.specs.References.{All}
 use borrow.Author.Tests.{eqb-true, eqb-false, eq-eqb, ne-eqb}
-use Rattle.cache.specs.Sum.{pick}
-use Rattle.cache.specs.Sets.{bits}
+use Rattle.cache.specs.Sets.{bits, inSet}
 use Rattle.cache.proofs.Bits.{bits-and}
 use Rattle.cache.proofs.Masks.{bits-or, bits-cong, bits-none, bits-single, bits-test, one-at}
 use Rattle.model.specs.Lists.{mem, Each}
@@ -24,7 +23,7 @@ use Rattle.model.proofs.Membership.{or-cases, or-left, or-right, both-left, bot
 use Rattle.model.proofs.Paths.{path-snoc, path-first, successor-below}
 use Rattle.model.proofs.OnPath.{Leads, fromEntry-exact, toEnd-exact}
 use Rattle.body.specs.Layout.{BlockInBounds, InBounds}
-use Rattle.body.specs.Jumps.{setOf, jumpSets, inSet, forwardPass, backwardPass, hasBelow}
+use Rattle.body.specs.Jumps.{setOf, jumpSets, forwardPass, backwardPass, hasBelow}
 
 abbrev Set : Type 0
 Set = ℕ → Bool
@@ -34,7 +33,7 @@ Set = ℕ → Bool
 or-grows : (a b : ℕ) → a ≤ bitOr a b
 or-grows a b = omega (arith, or-add-and a b, and-le-r a b)
 
-pick-grows : (c : Bool) (a b : ℕ) → a ≤ b → a ≤ pick c b a
+pick-grows : (c : Bool) (a b : ℕ) → a ≤ b → a ≤ cond c b a
 pick-grows true a b h = h
 pick-grows false a b h = le-refl a
 
@@ -42,18 +41,18 @@ pub forward-grows : (sets : List ℕ) (left b set : ℕ) → set ≤ forwardPass
 unfolding forwardPass
 forward-grows sets zero b set = le-refl set
 forward-grows sets (suc left) b set =
-    le-trans (pick-grows (inSet set b) set (bitOr set (getD sets b 0)) (or-grows set (getD sets b 0))) (forward-grows sets left (suc b) (pick (inSet set b) (bitOr set (getD sets b 0)) set))
+    le-trans (pick-grows (inSet set b) set (bitOr set (getD sets b 0)) (or-grows set (getD sets b 0))) (forward-grows sets left (suc b) (cond (inSet set b) (bitOr set (getD sets b 0)) set))
 
 pub backward-grows : (sets : List ℕ) (left b set : ℕ) → set ≤ backwardPass sets left b set
 unfolding backwardPass
 backward-grows sets zero b set = le-refl set
 backward-grows sets (suc left) b set =
     le-trans (pick-grows (not (eqb (bitAnd (getD sets b 0) set) 0)) set (bitOr set (2 ^ b)) (or-grows set (2 ^ b)))
-    (backward-grows sets left (suc b) (pick (not (eqb (bitAnd (getD sets b 0) set) 0)) (bitOr set (2 ^ b)) set))
+    (backward-grows sets left (suc b) (cond (not (eqb (bitAnd (getD sets b 0) set) 0)) (bitOr set (2 ^ b)) set))
 
 -- ---- a pass stays below 2 ^ 24
 
-pick-below : (c : Bool) (a b n : ℕ) → a < n → b < n → pick c a b < n
+pick-below : (c : Bool) (a b n : ℕ) → a < n → b < n → cond c a b < n
 pick-below true a b n h g = h
 pick-below false a b n h g = g
 
@@ -66,7 +65,7 @@ pub forward-below : (sets : List ℕ) → All (λ (x : ℕ). x < 16777216) sets 
 unfolding forwardPass
 forward-below sets a zero b set h = h
 forward-below sets a (suc left) b set h =
-    forward-below sets a left (suc b) (pick (inSet set b) (bitOr set (getD sets b 0)) set)
+    forward-below sets a left (suc b) (cond (inSet set b) (bitOr set (getD sets b 0)) set)
     (pick-below (inSet set b) (bitOr set (getD sets b 0)) set 16777216 (or-lt 24 set (getD sets b 0) h (at-below sets b 16777216 (omega arith) a)) h)
 
 pow-lt : (c : ℕ) → c < 24 → 2 ^ c < 2 ^ 24
@@ -76,7 +75,7 @@ pub backward-below : (sets : List ℕ) (left b set : ℕ) → b + left ≤ 24 �
 unfolding backwardPass
 backward-below sets zero b set l h = h
 backward-below sets (suc left) b set l h =
-    backward-below sets left (suc b) (pick (not (eqb (bitAnd (getD sets b 0) set) 0)) (bitOr set (2 ^ b)) set) (omega arith)
+    backward-below sets left (suc b) (cond (not (eqb (bitAnd (getD sets b 0) set) 0)) (bitOr set (2 ^ b)) set) (omega arith)
     (pick-below (not (eqb (bitAnd (getD sets b 0) set) 0)) (bitOr set (2 ^ b)) set 16777216 (or-lt 24 set (2 ^ b) h (pow-lt b (omega arith))) h)
 
 -- ---- Booleans
@@ -126,7 +125,7 @@ module _ (t : Task) (few : length t ≤ 24) where
   forward-bits (suc left) b P h =
       ap (forwardPass (jumpSets t) left (suc b)) (go (P b) refl) ∙ forward-bits left (suc b) (forwardStep b P) (omega arith)
     where
-      go : (x : Bool) → P b ≡ x → pick (inSet (bits 24 P) b) (bitOr (bits 24 P) (getD (jumpSets t) b 0)) (bits 24 P) ≡ bits 24 (forwardStep b P)
+      go : (x : Bool) → P b ≡ x → cond (inSet (bits 24 P) b) (bitOr (bits 24 P) (getD (jumpSets t) b 0)) (bits 24 P) ≡ bits 24 (forwardStep b P)
       go true e =
           rw (bits-test 24 b P (omega arith), e, jump-at t (replicate (24 - length t) 0) b (omega arith))
           (bits-or 24 P (λ c. mem eqb c (next b)) ∙ bits-cong 24 _ (forwardStep b P) (λ c l. rw e))
@@ -256,7 +255,7 @@ module _ (t : Task) (few : length t ≤ 24) where
           ap (λ x. not (eqb x 0)) (ap (λ x. bitAnd x (bits 24 P)) (jump-at t (replicate (24 - length t) 0) b (omega arith)) ∙ bits-and 24 (λ d. mem eqb d (after b)) P)
           ∙ bits-any 24 (λ d. mem eqb d (after b) && P d)
 
-      go : (x : Bool) → leadsIn b P ≡ x → pick (not (eqb (bitAnd (getD (jumpSets t) b 0) (bits 24 P)) 0)) (bitOr (bits 24 P) (2 ^ b)) (bits 24 P) ≡ bits 24 (backwardStep b P)
+      go : (x : Bool) → leadsIn b P ≡ x → cond (not (eqb (bitAnd (getD (jumpSets t) b 0) (bits 24 P)) 0)) (bitOr (bits 24 P) (2 ^ b)) (bits 24 P) ≡ bits 24 (backwardStep b P)
       go true e =
           rw (meets ∙ e)
           (ap (bitOr (bits 24 P)) (bits-single 24 b (omega arith)) ∙ bits-or 24 P (λ c. eqb c b) ∙ bits-cong 24 _ (backwardStep b P) (λ c l. rw e))

@@ -1,12 +1,11 @@
 -- Sets of basic blocks as bits of a number, and the passes that find the blocks on complete paths. Definitions only.
-use mathlib.Core.Bool.{Bool, true, not, _&&_}
+use mathlib.Core.Bool.{Bool, true, not, _&&_, cond}
 use mathlib.Core.List.{List, _++_, map}
 use Prim.Native.Nat.{ℕ, zero, suc, _-_, _^_}
 use lib.Dec.{eqb}
 use lib.ListN.{length, getD, replicate}
 use lib.Bits.{bitAnd, bitOr}
-use Rattle.cache.specs.Sets.{bits}
-use Rattle.cache.specs.Sum.{pick}
+use Rattle.cache.specs.Sets.{bits, inSet}
 use Rattle.model.specs.Lists.{mem}
 use Rattle.model.specs.Tasks.{Block, Task}
 
@@ -18,19 +17,15 @@ setOf l = bits 24 (λ c. mem eqb c l)
 abbrev pub jumpSets : Task → List ℕ
 jumpSets t = map (λ (x : Block). setOf (x .successors)) t ++ replicate (24 - length t) 0
 
--- whether the set has the block b
-abbrev pub inSet : ℕ → ℕ → Bool
-inSet set b = not (eqb (bitAnd set (2 ^ b)) 0)
-
 -- one pass over `left` blocks from b on: a block in the set adds its successors
 unfoldable pub forwardPass : List ℕ → ℕ → ℕ → ℕ → ℕ
 forwardPass sets zero b set = set
-forwardPass sets (suc left) b set = forwardPass sets left (suc b) (pick (inSet set b) (bitOr set (getD sets b 0)) set)
+forwardPass sets (suc left) b set = forwardPass sets left (suc b) (cond (inSet set b) (bitOr set (getD sets b 0)) set)
 
 -- one pass: a block with a successor in the set is added
 unfoldable pub backwardPass : List ℕ → ℕ → ℕ → ℕ → ℕ
 backwardPass sets zero b set = set
-backwardPass sets (suc left) b set = backwardPass sets left (suc b) (pick (not (eqb (bitAnd (getD sets b 0) set) 0)) (bitOr set (2 ^ b)) set)
+backwardPass sets (suc left) b set = backwardPass sets left (suc b) (cond (not (eqb (bitAnd (getD sets b 0) set) 0)) (bitOr set (2 ^ b)) set)
 
 -- each block below b is in the set
 abbrev pub hasBelow : ℕ → ℕ → Bool

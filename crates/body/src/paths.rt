@@ -67,7 +67,7 @@ fn has_all(set: u32, count: usize) -> bool
     true
 }
 
-// The blocks that paths from block 0 lead to: passes until nothing is added.
+// The blocks that paths from block 0 lead to: passes until nothing is added. Told only of sets that are the jumps of a task within the bounds.
 fn from_entry(sets: [u32; 24], count: usize) -> u32
     requires { ⌜ (1 ≤ count) × (count ≤ 24) × All (λ x. x < 16777216) sets ⌝ }
     ensures { λ r. ⌜ ((t : Task) → InBounds t → length t ≡ count → sets ≡ jumpSets t → r ≡ setOf (fromEntry t)) ⌝ }
@@ -81,7 +81,7 @@ fn from_entry(sets: [u32; 24], count: usize) -> u32
     reached
 }
 
-// The blocks that paths lead from to the end block: passes until nothing is added.
+// The blocks that paths lead from to the end block: passes until nothing is added. Told only of sets that are the jumps of a task within the bounds.
 fn to_end(sets: [u32; 24], count: usize) -> u32
     requires { ⌜ (1 ≤ count) × (count ≤ 24) × All (λ x. x < 16777216) sets ⌝ }
     ensures { λ r. ⌜ ((t : Task) → InBounds t → length t ≡ count → sets ≡ jumpSets t → r ≡ setOf (toEnd t)) ⌝ }
@@ -95,7 +95,7 @@ fn to_end(sets: [u32; 24], count: usize) -> u32
     leading
 }
 
-// Whether each block lies on a complete path, by the sets of the blocks' successors.
+// Whether each block lies on a complete path, by the sets of the blocks' successors. Told only of sets that are the jumps of a task within the bounds.
 pub fn all_on_paths(sets: [u32; 24], count: usize) -> bool
     requires { ⌜ (1 ≤ count) × (count ≤ 24) × All (λ x. x < 16777216) sets ⌝ }
     ensures { λ r. ⌜ ((t : Task) → InBounds t → length t ≡ count → sets ≡ jumpSets t → r ≡ allOnPath t) ⌝ }

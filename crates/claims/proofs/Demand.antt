@@ -1,30 +1,35 @@
 -- Demand 3 whole, over accepted files: `demand-3-whole`.
 -- The idea: an accepted file's tasks keep the rules; a table that is filled is the table of the definitions, and an accepted sheet is that of a disturbed run.
 use mathlib.Core.Path.{_≡_, refl, sym, ap, _∙_}
-use mathlib.Core.Logic.{_≢_}
-use mathlib.Core.Bool.{Bool, true, false}
 use mathlib.Core.List.{List}
-use Prim.Native.Nat.{ℕ, _+_, _*_, _≤_, _<_}
+use Prim.Native.Nat.{ℕ, _+_, _*_, _<_}
 use native.Mathlib.Nat.{zero-add}
 use native.Mathlib.Omega.{arith}
 use lib.ListN.{getD}
 use borrow.Author.Tests.{lt-ltb, ne-eqb}
+use Rattle.cache.specs.Cache.{direct}
+use Rattle.cache.specs.Sets.{usefulUsed}
+use Rattle.model.specs.Tasks.{task}
+use Rattle.model.proofs.Most.{most-is}
 use Rattle.project.specs.declared.answers.Check.{Check}
 use Rattle.project.specs.declared.answers.Check.the-variants.{Passed}
 use Rattle.project.specs.declared.answers.Check.the-variants.{Refused as Failed}
-use Rattle.project.specs.declared.answers.Filling.the-variants.{Filled, Refused}
-use Rattle.project.specs.File.{taskCount}
-use Rattle.project.specs.Reading.{unless, fileCheck, readingOf}
+use Rattle.project.specs.declared.answers.Filling.the-variants.{Filled}
+use Rattle.project.specs.File.{cacheBlocks, taskCount}
+use Rattle.project.specs.Checklist.{noTask}
+use Rattle.project.specs.Reading.{fileCheck, readingOf}
 use Rattle.project.specs.Bodies.{accepted}
 use Rattle.project.specs.Filling.{pickFilling}
-use Rattle.project.specs.Tasks.{filePair}
+use Rattle.project.specs.Tasks.{tasksOf}
 use Rattle.project.specs.declared.answers.Reading.the-variants.{Accepted}
 use Rattle.project.proofs.TaskFaults.{Bytes}
-use Rattle.project.proofs.Accepted.{then-passed, passing, accepted-passed}
+use Rattle.project.proofs.Accepted.{unless-passed, then-passed, passing, accepted-passed}
 use Rattle.project.proofs.FileRules.{file-demand-3}
-use Rattle.table.specs.Table.{test1, firstFull, tableCheck, entryOf, tableOf, tableAnswer, tableAfter}
+use Rattle.table.specs.Table.{test1, tableCheck, entryOf, tableOf}
 use Rattle.table.proofs.TableLaws.{place-at}
-use Rattle.replay.proofs.Replays.{replayed, run-replayed}
+use Rattle.table.proofs.Answers.{later-parts}
+use Rattle.replay.proofs.Replays.{replayed, run-replayed, sheet-two-bytes}
+use Rattle.claims.proofs.Sheets.{of-the-run}
 use Rattle.claims.specs.Demand.{TableEntries, Demand3Whole}
 
 filled-passed : (c : Check) → pickFilling c ≡ Filled → c ≡ Passed
@@ -39,7 +44,7 @@ table-place s i j a b = place-at (entryOf s) 8 0 i j a b ∙ ap (λ (k : ℕ). e
 pub table-entries : (s : List ℕ) → TableEntries s
 table-entries s area table e i j hi hj d =
     let passed = filled-passed (tableCheck 16 s area table) e in
-    let file = then-passed (fileCheck s) _ (then-passed (unless 1 (test1 16 area table)) _ passed .1) .0 in
+    let file = then-passed (fileCheck s) _ (sym (later-parts 16 s) ∙ unless-passed 1 noTask (test1 16 area table) _ passed .1) .0 in
     let few = passing s file .t-high in
     rw passed
     (table-place s i j (omega arith) (omega arith) ∙ rw (lt-ltb i (taskCount s) hi, lt-ltb j (taskCount s) hj, ne-eqb i j (λ q. d (sym q))))
@@ -50,7 +55,9 @@ demand-3-whole s h n t e =
     let (q, en, et) = accepted-passed s n t e in
     record {
       runs = rw (← en) (file-demand-3 s h n t e);
+      numbers = λ i j. most-is (usefulUsed (direct (cacheBlocks s))) (direct (cacheBlocks s)) (task (tasksOf s) i) (task (tasksOf s) j);
       entries = table-entries s;
-      answers = replayed s h;
-      sheets = run-replayed s (ap accepted e);
+      answers = of-the-run s h;
+      described = replayed s h;
+      sheets = λ run f. (run-replayed s (ap accepted e) run f, sheet-two-bytes s (ap accepted e) run f);
     }

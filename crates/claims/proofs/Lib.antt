@@ -1,3 +1,4 @@
 pub mod Papers
 pub mod Demand
 pub mod Neighbours
+mod Sheets

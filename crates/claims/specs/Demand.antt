@@ -4,7 +4,10 @@ use mathlib.Core.Logic.{_≢_}
 use mathlib.Core.List.{List}
 use Prim.Native.Nat.{ℕ, _+_, _*_, _<_}
 use lib.ListN.{getD}
+use Rattle.cache.specs.References.{All}
 use Rattle.cache.specs.Cache.{direct}
+use Rattle.model.specs.Tasks.{task}
+use Rattle.model.specs.Numbers.{PairNumber}
 use Rattle.model.specs.Runs.{DisturbedRun, U, D}
 use Rattle.model.specs.Demand.{Demand3}
 use Rattle.project.specs.declared.answers.Filling.the-variants.{Filled}
@@ -22,20 +25,41 @@ TableEntries s =
     (area table : List ℕ) → tableAnswer 16 s area table ≡ Filled → (i j : ℕ) → i < taskCount s → j < taskCount s → j ≢ i
     → getD (tableAfter 16 s area table) (8 * i + j) 0 ≡ filePair s i j
 
--- "Where replay accepts a sheet of the run, U and D are its answers."
-abbrev pub ReplayAnswers : List ℕ → Type 0
-ReplayAnswers s = (sheet : List ℕ) (u d : ℕ) → replayingOf s sheet ≡ Counted u d → Replayed s sheet u d
+-- "Its pair numbers are those defined above": over the rows that paths make
+abbrev pub NumbersOfPaths : List ℕ → Type 0
+NumbersOfPaths s = (i j : ℕ) → PairNumber (direct (cacheBlocks s)) (task (tasksOf s) i) (task (tasksOf s) j) (filePair s i j)
 
--- every disturbed run that a sheet can hold has a sheet, and replay of it answers the run's U and D
+-- the sheet of a run, and the run's U and D in the file's cache
+abbrev pub sheetOf : (s : List ℕ) → DisturbedRun (tasksOf s) → List ℕ
+sheetOf s run = sheetNumbers (sheetRun (tasksOf s) run)
+
+abbrev pub fileU : (s : List ℕ) → DisturbedRun (tasksOf s) → ℕ
+fileU s run = U (direct (cacheBlocks s)) run
+
+abbrev pub fileD : (s : List ℕ) → DisturbedRun (tasksOf s) → ℕ
+fileD s run = D (direct (cacheBlocks s)) run
+
+-- "Where replay accepts a sheet of the run, U and D are its answers.": of the run that is given
+abbrev pub ReplayAnswers : List ℕ → Type 0
+ReplayAnswers s = (run : DisturbedRun (tasksOf s)) (u d : ℕ) → replayingOf s (sheetOf s run) ≡ Counted u d → (u ≡ fileU s run) × (d ≡ fileD s run)
+
+-- every sheet that replay accepts is that of a disturbed run
+abbrev pub SheetsDescribe : List ℕ → Type 0
+SheetsDescribe s = (sheet : List ℕ) (u d : ℕ) → replayingOf s sheet ≡ Counted u d → Replayed s sheet u d
+
+-- replay accepts the sheet of every disturbed run that a sheet can hold; the sheet is one of two-byte numbers
 abbrev pub RunsReplayed : List ℕ → Type 0
 RunsReplayed s =
     (run : DisturbedRun (tasksOf s)) → Fits (tasksOf s) run
-    → replayingOf s (sheetNumbers (sheetRun (tasksOf s) run)) ≡ Counted (U (direct (cacheBlocks s)) run) (D (direct (cacheBlocks s)) run)
+    → (replayingOf s (sheetOf s run) ≡ Counted (fileU s run) (fileD s run)) × All (λ (x : ℕ). x < 65536) (sheetOf s run)
 
 -- demand 3 whole, over an accepted file: for every disturbed run U <= D <= U + the sum of the pair numbers, and for every two different tasks
--- a run with exactly one preemption that reaches its number (`Demand3`); the table's entries are these numbers, and the replay's answers these U and D
+-- a run with exactly one preemption that reaches its number (`Demand3`); the numbers are those over paths, the table's entries are these numbers, and
+-- the replay's answers these U and D
 pub record Demand3Whole (s : List ℕ) : Type 0 where
   pub runs : Demand3 (cacheBlocks s) (tasksOf s)
+  pub numbers : NumbersOfPaths s
   pub entries : TableEntries s
   pub answers : ReplayAnswers s
+  pub described : SheetsDescribe s
   pub sheets : RunsReplayed s

@@ -2,9 +2,11 @@
 ghost use mathlib.Core.Path.{_≡_};
 ghost use Rattle.crpd_c.specs.States.{statesStatus, statesLeft, statesNamed};
 use project::answers::Filling;
+use project::answers::NO_TASK;
 use states::states::states;
 
 // States: 0, or the check that fails first; `named` gets the task that it names, or 255.
+// A `named` that has not one place gives 1, and then every list is left as it was.
 #[no_mangle]
 pub extern "C" fn crpd_states(file: &[u8], task: usize, area: &mut [u16], named: &mut [u8]) -> u8
     ensures { λ r. ⌜ (r ≡ statesStatus (now (file .entry)) task (now (area .entry)) (now (named .entry)))
@@ -16,7 +18,7 @@ pub extern "C" fn crpd_states(file: &[u8], task: usize, area: &mut [u16], named:
     }
     match states(file, task, area) {
         Filling::Filled => {
-            named[0] = 255;
+            named[0] = NO_TASK;
             0
         }
         Filling::Refused {

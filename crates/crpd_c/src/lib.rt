@@ -8,12 +8,15 @@ pub mod run_counts;
 pub mod write;
 
 ghost use mathlib.Core.Path.{_≡_};
+ghost use mathlib.Core.Logic.{_≢_};
 ghost use lib.ListN.{length};
 ghost use Rattle.crpd_c.specs.Table.{tableStatus, tableLeft, tableNamed};
 use project::answers::Filling;
+use project::answers::NO_TASK;
 use table::table;
 
-// Table: 0, or the check that fails first; `named` gets the task that it names, or 255.
+// Table: 0, or the check that fails first; `named` gets the task that it names, or 255. What `area` holds afterwards is free.
+// A `named` that has not one place gives 1, and then every list is left as it was.
 #[no_mangle]
 pub extern "C" fn crpd_table(
     file: &[u8],
@@ -24,14 +27,15 @@ pub extern "C" fn crpd_table(
     ensures { λ r. ⌜ (r ≡ tableStatus (now (file .entry)) (now (area .entry)) (now (numbers .entry)) (now (named .entry)))
         × (now (numbers .exit) ≡ tableLeft (now (file .entry)) (now (area .entry)) (now (numbers .entry)) (now (named .entry)))
         × (now (named .exit) ≡ tableNamed (now (file .entry)) (now (area .entry)) (now (numbers .entry)) (now (named .entry)))
-        × (length (now (area .exit)) ≡ length (now (area .entry))) ⌝ }
+        × (length (now (area .exit)) ≡ length (now (area .entry)))
+        × (length (now (named .entry)) ≢ 1 → now (area .exit) ≡ now (area .entry)) ⌝ }
 {
     if named.len() != 1 {
         return 1;
     }
     match table(file, area, numbers) {
         Filling::Filled => {
-            named[0] = 255;
+            named[0] = NO_TASK;
             0
         }
         Filling::Refused { check, task } => {

@@ -4,8 +4,9 @@ ghost use Rattle.crpd_c.specs.Places.{placeStatus, rowLeft};
 use crate::put::put_two;
 use area::row::row_place;
 
-// Row: 0, or 1 if `found` has not two places; it gets the row's offset in the area and its length, 0 and 0 where there is none.
+// Row: 0, and `found` gets the row's offset in the area and its length, 0 and 0 where there is none.
 // Reaching rows are asked for by `live` 0, live rows by any other number.
+// A `found` that has not two places gives 1 and is left as it was.
 #[no_mangle]
 pub extern "C" fn crpd_row(
     area: &[u16],

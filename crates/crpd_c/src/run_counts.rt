@@ -13,6 +13,7 @@ fn count(x: u8) -> u32
 }
 
 // Replay: 0, or the check that fails first; `answer` gets the task that it names (255 if none), U and D (0 and 0 after a refusal).
+// An `answer` that has not three places gives 1 and is left as it was.
 #[no_mangle]
 pub extern "C" fn crpd_replay(file: &[u8], sheet: &[u16], answer: &mut [u32]) -> u8
     ensures { λ r. ⌜ (r ≡ replayStatus (now (file .entry)) (now (sheet .entry)) (now (answer .entry)))

@@ -13,6 +13,7 @@ fn count(x: u8) -> usize
 }
 
 // Writer: 0, or the check that fails first; `answer` gets the task that it names (255 if none) and the length written (0 after a refusal).
+// An `answer` that has not two places gives 1, and then every list is left as it was.
 #[no_mangle]
 pub extern "C" fn crpd_write(
     n: u8,

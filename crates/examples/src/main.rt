@@ -1,156 +1,16 @@
 // Runs document 01's examples of project files, and prints what each call answers.
 ghost use mathlib.Core.Path.{_≡_};
+ghost use mathlib.Core.List.{replicate};
 ghost use Prim.Native.Nat.{_≤_, _<_};
 ghost use lib.ListN.{set};
-ghost use Rattle.project.specs.FileE.{fileE};
+use example_files::APART;
+use example_files::E;
+use example_files::with_byte;
 use libc::STDOUT_FILENO;
 use project::answers::Filling;
 use project::answers::Reading;
 use project::answers::Writing;
 use replay::Replaying;
-
-// File E.
-const E: [u8; 33] = [
-    0x43,
-    0x52,
-    0x50,
-    0x44,
-    0x01,
-    0x02,
-    0x02,
-    0x00,
-    0x10,
-    0x00,
-    0x0A,
-    0x00,
-    0x1A,
-    0x00,
-    0x07,
-    0x00,
-    0x01,
-    0x00,
-    0x00,
-    0x01,
-    0x02,
-    0x00,
-    0x00,
-    0x00,
-    0x01,
-    0x00,
-    0x01,
-    0x00,
-    0x00,
-    0x00,
-    0x01,
-    0x02,
-    0x00,
-];
-
-// One task of two blocks without successors.
-const APART: [u8; 20] = [
-    0x43,
-    0x52,
-    0x50,
-    0x44,
-    0x01,
-    0x02,
-    0x01,
-    0x00,
-    0x0C,
-    0x00,
-    0x08,
-    0x00,
-    0x02,
-    0x00,
-    0x00,
-    0x00,
-    0x00,
-    0x00,
-    0x00,
-    0x00,
-];
-
-// A sheet of task 0 of E with a path of 65 blocks.
-const LONG: [u16; 68] = [
-    0,
-    65,
-    0,
-    0,
-    0,
-    0,
-    0,
-    0,
-    0,
-    0,
-    0,
-    0,
-    0,
-    0,
-    0,
-    0,
-    0,
-    0,
-    0,
-    0,
-    0,
-    0,
-    0,
-    0,
-    0,
-    0,
-    0,
-    0,
-    0,
-    0,
-    0,
-    0,
-    0,
-    0,
-    0,
-    0,
-    0,
-    0,
-    0,
-    0,
-    0,
-    0,
-    0,
-    0,
-    0,
-    0,
-    0,
-    0,
-    0,
-    0,
-    0,
-    0,
-    0,
-    0,
-    0,
-    0,
-    0,
-    0,
-    0,
-    0,
-    0,
-    0,
-    0,
-    0,
-    0,
-    0,
-    0,
-    0,
-];
-
-// File E with another byte.
-fn with_byte(at: usize, value: u8) -> [u8; 33]
-    requires { ⌜ at < 33 ⌝ }
-    ensures { λ r. ⌜ r ≡ set fileE at value ⌝ }
-{
-    let mut file = E;
-    file[at] = value;
-    file
-}
 
 fn print(text: &[u8]) {
     io::write_all(STDOUT_FILENO, text);
@@ -160,24 +20,59 @@ fn print_number(x: u64) {
     io::print_decimal(STDOUT_FILENO, x);
 }
 
+// Two numbers, each after its name, and the end of the line.
+fn print_numbers(first_name: &[u8], first: u64, second_name: &[u8], second: u64) {
+    print(first_name);
+    print_number(first);
+    print(second_name);
+    print_number(second);
+    print(b"\n");
+}
+
+fn print_refusal(check: u8, task: u8) {
+    print_numbers(b": refused ", check as u64, b" task ", task as u64);
+}
+
 // What reading the file answers.
 fn show_reading(name: &[u8], file: &[u8]) {
     print(name);
     match reader::read(file) {
         Reading::Accepted { n, t } => {
-            print(b": cache ");
-            print_number(n as u64);
-            print(b" tasks ");
-            print_number(t as u64);
+            print_numbers(b": cache ", n as u64, b" tasks ", t as u64);
         }
         Reading::Refused { check, task } => {
-            print(b": refused ");
-            print_number(check as u64);
-            print(b" task ");
-            print_number(task as u64);
+            print_refusal(check, task);
         }
     }
-    print(b"\n");
+}
+
+// What reading E with another byte answers.
+fn show_changed(name: &[u8], at: usize, value: u8)
+    requires { ⌜ at < 33 ⌝ }
+{
+    show_reading(name, &with_byte(at, value));
+}
+
+// E, and files that the checks of length and head refuse.
+fn show_heads() {
+    show_reading(b"E", &E);
+    show_reading(b"7 bytes", &E[0..7]);
+    show_reading(b"7,545 bytes", &[0u8; 7545]);
+    show_changed(b"E, byte 0 = 44", 0, 0x44);
+    show_changed(b"E, byte 4 = 02", 4, 0x02);
+    show_changed(b"E, byte 5 = 00", 5, 0x00);
+    show_changed(b"E, byte 6 = 09", 6, 0x09);
+    show_changed(b"E, byte 7 = 01", 7, 0x01);
+}
+
+// Files that the checks of contents and bodies refuse.
+fn show_bodies() {
+    show_changed(b"E, byte 8 = 11", 8, 0x11);
+    show_reading(b"E without its last byte", &E[0..32]);
+    show_changed(b"E, byte 21 = 01", 21, 0x01);
+    show_changed(b"E, byte 26 = 00", 26, 0x00);
+    show_reading(b"two blocks, no successors", &APART);
+    show_changed(b"E, byte 31 = 00", 31, 0x00);
 }
 
 // Where the body of a task of E stands, and how long it is.
@@ -185,11 +80,7 @@ fn show_place(task: usize) {
     let found = reader::place(&E, task);
     print(b"body of task ");
     print_number(task as u64);
-    print(b" of E: ");
-    print_number(found.start as u64);
-    print(b", ");
-    print_number(found.length as u64);
-    print(b"\n");
+    print_numbers(b" of E: ", found.start as u64, b", ", found.length as u64);
 }
 
 // What writing the joined bodies answers, in an out list of so many bytes.
@@ -202,15 +93,12 @@ fn show_writing(name: &[u8], n: u8, bodies: &[u8], lengths: &[usize], room: usiz
         Writing::Written { length } => {
             print(b": written ");
             print_number(length as u64);
+            print(b"\n");
         }
         Writing::Refused { check, task } => {
-            print(b": refused ");
-            print_number(check as u64);
-            print(b" task ");
-            print_number(task as u64);
+            print_refusal(check, task);
         }
     }
-    print(b"\n");
 }
 
 // Whether E written again from its n and its bodies is E.
@@ -243,11 +131,7 @@ fn show_filling(answer: Filling) {
             print(b": filled\n");
         }
         Filling::Refused { check, task } => {
-            print(b": refused ");
-            print_number(check as u64);
-            print(b" task ");
-            print_number(task as u64);
-            print(b"\n");
+            print_refusal(check, task);
         }
     }
 }
@@ -277,6 +161,19 @@ fn show_states(task: usize, area_length: usize)
     show_filling(states::states::states(&E, task, &mut area[0..area_length]));
 }
 
+// Table and States with lists of each length.
+fn show_fillings() {
+    show_table(24832, 63);
+    show_table(24832, 64);
+    show_table(24832, 65);
+    show_table(24831, 64);
+    show_table(24833, 64);
+    show_states(0, 24831);
+    show_states(0, 24832);
+    show_states(0, 24833);
+    show_states(2, 24832);
+}
+
 // What replaying a sheet on E answers.
 fn show_replay(name: &[u8], sheet: &[u16]) {
     print(b"Replay on E of ");
@@ -286,32 +183,42 @@ fn show_replay(name: &[u8], sheet: &[u16]) {
             undisturbed,
             disturbed,
         } => {
-            print(b": U = ");
-            print_number(undisturbed as u64);
-            print(b", D = ");
-            print_number(disturbed as u64);
+            print_numbers(b": U = ", undisturbed as u64, b", D = ", disturbed as u64);
         }
         Replaying::Refused { check, task } => {
-            print(b": refused ");
-            print_number(check as u64);
-            print(b" task ");
-            print_number(task as u64);
+            print_refusal(check, task);
         }
     }
-    print(b"\n");
 }
 
-// The replays of document 01, and sheets that break each rule.
+// A sheet of task 0 with a path of 65 blocks.
+fn long_path() -> [u16; 68]
+    ensures { λ r. ⌜ r ≡ set (replicate 68 0) 1 65 ⌝ }
+{
+    let mut sheet = [0u16; 68];
+    sheet[1] = 65;
+    sheet
+}
+
+// The replays of document 01.
 fn show_replays() {
     show_replay(b"0, 2, 0, 0, 1, 0, 1, 1, 0", &[0, 2, 0, 0, 1, 0, 1, 1, 0]);
     show_replay(b"0, 2, 0, 0, 0", &[0, 2, 0, 0, 0]);
     show_replay(b"0, 2, 0, 0, 1, 1, 1, 1, 0", &[0, 2, 0, 0, 1, 1, 1, 1, 0]);
+}
+
+// Sheets that are not laid out as one.
+fn show_sheets() {
     show_replay(b"an empty sheet", &[0u16; 0]);
     show_replay(b"0, 0", &[0, 0]);
     show_replay(b"2, 1, 0, 0: no such task", &[2, 1, 0, 0]);
     show_replay(b"0, 1, 0: no count", &[0, 1, 0]);
     show_replay(b"0, 1, 0, 0, 0: a number too many", &[0, 1, 0, 0, 0]);
     show_replay(b"0, 1, 0, 17: too many preemptions", &[0, 1, 0, 17]);
+}
+
+// Sheets with a preemption behind the path, out of order, at the point of another, or by the task itself.
+fn show_preemptions() {
     show_replay(
         b"0, 1, 0, 1, 1, 1, 1, 0: a point behind the path",
         &[0, 1, 0, 1, 1, 1, 1, 0],
@@ -328,7 +235,11 @@ fn show_replays() {
         b"0, 1, 0, 1, 0, 0, 1, 0: preempted by itself",
         &[0, 1, 0, 1, 0, 0, 1, 0],
     );
-    show_replay(b"a path of 65 blocks", &LONG);
+}
+
+// Sheets with a path that is too long, or with one that the graph does not have.
+fn show_paths() {
+    show_replay(b"a path of 65 blocks", &long_path());
     show_replay(b"0, 1, 5, 0", &[0, 1, 5, 0]);
     show_replay(b"0, 1, 65535, 0", &[0, 1, 65535, 0]);
     show_replay(b"1, 2, 0, 0, 0: no such jump", &[1, 2, 0, 0, 0]);
@@ -339,33 +250,16 @@ fn show_replays() {
 }
 
 fn main() {
-    show_reading(b"E", &E);
-    show_reading(b"7 bytes", &E[0..7]);
-    show_reading(b"7,545 bytes", &[0u8; 7545]);
-    show_reading(b"E, byte 0 = 44", &with_byte(0, 0x44));
-    show_reading(b"E, byte 4 = 02", &with_byte(4, 0x02));
-    show_reading(b"E, byte 5 = 00", &with_byte(5, 0x00));
-    show_reading(b"E, byte 6 = 09", &with_byte(6, 0x09));
-    show_reading(b"E, byte 7 = 01", &with_byte(7, 0x01));
-    show_reading(b"E, byte 8 = 11", &with_byte(8, 0x11));
-    show_reading(b"E without its last byte", &E[0..32]);
-    show_reading(b"E, byte 21 = 01", &with_byte(21, 0x01));
-    show_reading(b"E, byte 26 = 00", &with_byte(26, 0x00));
-    show_reading(b"two blocks, no successors", &APART);
-    show_reading(b"E, byte 31 = 00", &with_byte(31, 0x00));
+    show_heads();
+    show_bodies();
     show_place(0);
     show_place(1);
     show_place(2);
     show_same();
     show_writings();
-    show_table(24832, 63);
-    show_table(24832, 64);
-    show_table(24832, 65);
-    show_table(24831, 64);
-    show_table(24833, 64);
-    show_states(0, 24831);
-    show_states(0, 24832);
-    show_states(0, 24833);
-    show_states(2, 24832);
+    show_fillings();
     show_replays();
+    show_sheets();
+    show_preemptions();
+    show_paths();
 }

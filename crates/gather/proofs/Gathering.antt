@@ -10,13 +10,14 @@ use lib.Dec.{eqb, ltb}
 use lib.ListN.{length, getD, set, replicate, length-set, getD-replicate}
 use lib.Seq.{getD-set-same, getD-set-other}
 use borrow.Author.Tests.{eqb-true, eqb-false, ltb-true, ltb-false, lt-ltb, le-ltb}
+use Rattle.cache.specs.Sets.{inSet}
 use Rattle.model.specs.Lists.{mem}
 use Rattle.model.specs.Computed.{sameList, sorted}
 use Rattle.model.proofs.Membership.{or-cases, or-left, or-right, sameList-self, sameList-true}
 use Rattle.model.proofs.Sorted.{sorted-rising, sorted-has, sorted-only, rising-unique}
 use Rattle.rows.specs.Overlay.{overlay}
 use Rattle.rows.specs.Rows.{rowsOf, partOf}
-use Rattle.gather.specs.Graph.{Graph, rowAt, inSet, handedOn, Gets, begins, handed, Listed, tooMany}
+use Rattle.gather.specs.Graph.{Graph, rowAt, handedOn, Gets, begins, handed, Listed, tooMany}
 use Rattle.gather.specs.Memory.{heldRows, Memory, withRow, AppendedTo, Handed, FullAt}
 use Rattle.gather.specs.Gathered.{GatheredRows, GatheredAs}
 use Rattle.rows.proofs.Parts.{rows-length}

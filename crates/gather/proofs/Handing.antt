@@ -9,10 +9,11 @@ use lib.Dec.{eqb}
 use lib.ListN.{length, getD, take, drop}
 use lib.Bits.{bitAnd}
 use borrow.Author.Tests.{eqb-true, eqb-false, eq-eqb, ne-eqb}
+use Rattle.cache.specs.Sets.{inSet}
 use Rattle.cache.proofs.Masks.{one-at}
 use Rattle.rows.specs.Overlay.{overlay}
 use Rattle.rows.specs.Rows.{partOf}
-use Rattle.gather.specs.Graph.{rowAt, inSet}
+use Rattle.gather.specs.Graph.{rowAt}
 use Rattle.gather.specs.Memory.{heldRows, Memory, withRow, AppendedTo, Handed, FullAt, HandedOn}
 use Rattle.rows.proofs.Parts.{rows-length, rows-at}
 

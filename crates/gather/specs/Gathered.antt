@@ -23,12 +23,12 @@ pub record GatherInput (blocks : ℕ) (sets leaving entering : List ℕ) (first 
   pub long : length rows ≡ 12288
   pub many : length counts ≡ 24
 
--- the number of rows of each block, and the rows, in the order in which they came
+-- the number of rows of the block b, and the rows, in some order
 pub record GatheredRows (all : ℕ → List (List ℕ)) (rows counts : List ℕ) (b : ℕ) : Type 0 where
   pub count : getD counts b 0 ≡ length (all b)
   pub list : sorted (rowsOf 16 (length (all b)) (partOf 16 rows b)) ≡ all b
 
--- the answer is whether a block has more than 32 rows; if none has, all rows are in memory
+-- the answer is whether a block has more than 32 rows; if none has, all rows are in memory, else what it holds is left open
 pub record GatheredAs (g : Graph) (rows counts : List ℕ) (full : Bool) : Type 0 where
   pub long : length rows ≡ 12288
   pub many : length counts ≡ 24

@@ -1,12 +1,12 @@
 -- The rows that a graph of blocks gathers, block by block. Definitions only.
 use mathlib.Core.Path.{_≡_}
 use mathlib.Core.Logic.{_↔_}
-use mathlib.Core.Bool.{Bool, true, false, not, _||_}
+use mathlib.Core.Bool.{Bool, true, false, _||_}
 use mathlib.Core.List.{List}
-use Prim.Native.Nat.{ℕ, zero, suc, _*_, _^_, _<_}
-use lib.Dec.{eqb, ltb}
+use Prim.Native.Nat.{ℕ, zero, suc, _*_, _<_}
+use lib.Dec.{ltb}
 use lib.ListN.{length, getD, take, drop}
-use lib.Bits.{bitAnd}
+use Rattle.cache.specs.Sets.{inSet}
 use Rattle.model.specs.Lists.{mem}
 use Rattle.model.specs.Order.{Rising}
 use Rattle.model.specs.Computed.{sameList}
@@ -25,10 +25,6 @@ pub record Graph : Type 0 where
 -- the row of sixteen numbers at the block b
 abbrev pub rowAt : List ℕ → ℕ → List ℕ
 rowAt rows b = take 16 (drop (16 * b) rows)
-
--- whether the set has the block s
-abbrev pub inSet : ℕ → ℕ → Bool
-inSet set s = not (eqb (bitAnd set (2 ^ s)) 0)
 
 -- what a row of b becomes at s
 abbrev pub handedOn : Graph → ℕ → ℕ → List ℕ → List ℕ

@@ -6,11 +6,12 @@ use mathlib.Core.List.{List, [], _∷_, _++_}
 use Prim.Native.Nat.{ℕ, suc, _≤_, _<_}
 use lib.Dec.{ltb}
 use lib.ListN.{length, getD}
+use Rattle.cache.specs.Sets.{inSet}
 use Rattle.model.specs.Lists.{mem}
 use Rattle.model.specs.Computed.{sameList}
 use Rattle.rows.specs.Overlay.{overlay}
 use Rattle.rows.specs.Rows.{rowsOf, partOf}
-use Rattle.gather.specs.Graph.{rowAt, inSet}
+use Rattle.gather.specs.Graph.{rowAt}
 use Rattle.gather.specs.declared.gather.Waiting.{Waiting}
 use Rattle.gather.specs.declared.gather.Waiting.the-variants.{At, None}
 
@@ -18,7 +19,7 @@ use Rattle.gather.specs.declared.gather.Waiting.the-variants.{At, None}
 abbrev pub heldRows : List ℕ → List ℕ → ℕ → List (List ℕ)
 heldRows rows counts b = rowsOf 16 (getD counts b 0) (partOf 16 rows b)
 
--- memory for 24 blocks, with at most 32 rows for each
+-- memory for 24 blocks, with at most 32 rows for each; what stands after the rows of a block is left open
 pub record Memory (rows counts : List ℕ) : Type 0 where
   pub long : length rows ≡ 12288
   pub many : length counts ≡ 24
@@ -37,7 +38,7 @@ pub record AppendedTo (s : ℕ) (row rows counts rows' counts' : List ℕ) (full
   pub kept : full ≡ true → heldRows rows' counts' s ≡ heldRows rows counts s
   pub others : (b : ℕ) → b < 24 → b ≢ s → heldRows rows' counts' b ≡ heldRows rows counts b
 
--- each block below `stop` that is in the set has the row too that it gets; all else is as it was
+-- each block below `stop` that is in the set has the row too that it gets; all other rows are as they were
 pub record Handed (set : ℕ) (left entering : List ℕ) (stop : ℕ) (rows counts rows' counts' : List ℕ) : Type 0 where
   pub memory : Memory rows' counts'
   pub below : (b : ℕ) → b < 24 → b < stop
@@ -58,12 +59,8 @@ pub record HandedOn (set : ℕ) (left : List ℕ) (blocks : ℕ) (entering rows 
   pub all : full ≡ false → Handed set left entering blocks rows counts rows' counts'
   pub stopped : full ≡ true → FullAt set left blocks entering rows counts rows' counts'
 
-abbrev pub pickWaiting : Bool → Waiting → Waiting → Waiting
-pickWaiting true a b = a
-pickWaiting false a b = b
-
 -- the first block, of those from b on, that has handed on fewer rows than it has
 abbrev pub firstWaiting : ℕ → List ℕ → List ℕ → Waiting
 firstWaiting b [] done = None
 firstWaiting b (n ∷ counts) [] = None
-firstWaiting b (n ∷ counts) (d ∷ done) = pickWaiting (ltb d n) (At b) (firstWaiting (suc b) counts done)
+firstWaiting b (n ∷ counts) (d ∷ done) = cond (ltb d n) (At b) (firstWaiting (suc b) counts done)

@@ -19,7 +19,7 @@ fn clear(counts: &mut [usize])
     }
 }
 
-// The row is appended to the rows of block s; true where the block is full.
+// The row is appended to the rows of block s; true where the block is full. What stands after the rows of a block is left open.
 fn append_to(s: usize, row: [u16; 16], rows: &mut [u16], counts: &mut [usize]) -> bool
     requires { ⌜ (s < 24) × Memory (now rows) (now counts) ⌝ }
     ensures { λ r. ⌜ AppendedTo s row (now (rows .entry)) (now (counts .entry)) (now (rows .exit)) (now (counts .exit)) r ⌝ }
@@ -35,7 +35,7 @@ fn append_to(s: usize, row: [u16; 16], rows: &mut [u16], counts: &mut [usize]) -
     }
 }
 
-// What `left` becomes at each block of the set is appended there; true where one of them is full.
+// What `left` becomes at each block of the set is appended there; true where one of them is full. What stands after the rows of a block is left open.
 fn hand_on(
     set: u32,
     left: [u16; 16],
@@ -77,7 +77,8 @@ fn next_waiting(counts: &[usize], done: &[usize]) -> Waiting
     Waiting::None
 }
 
-// The rows of each block, in the order in which they came, and their counts; true where some block has more than 32 rows.
+// The rows of each block and their counts; true where some block has more than 32 rows. Left open are the order of a block's rows and what stands
+// after them, and after true all rows and counts.
 pub fn gather(
     blocks: usize,
     sets: &[u32],

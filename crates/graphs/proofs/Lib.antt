@@ -2,3 +2,4 @@ pub mod Listed
 pub mod Prepared
 pub mod Turning
 pub mod Gathered
+pub mod TooMany

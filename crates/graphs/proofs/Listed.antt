@@ -12,6 +12,7 @@ use lib.Seq.{take-at, drop-at, drop-drop}
 use Rattle.cache.specs.References.{nothing, Real, All}
 use Rattle.cache.specs.Cache.{Cache, wide, emptyRow, withReferences, firstReferences}
 use Rattle.cache.specs.Firsts.{firstsOver}
+use Rattle.cache.specs.Sets.{inSet}
 use Rattle.cache.proofs.Masks.{bits-test}
 use Rattle.cache.proofs.Rows.{withReferences-append, firstsOver-append, length-emptyRow, length-withReferences, length-firstsOver, firstReferences-fold}
 use Rattle.model.specs.Lists.{mem}
@@ -24,7 +25,7 @@ use Rattle.model.proofs.Sorted.{reaching-rows, living-rows, reaching-rising, li
 use Rattle.body.specs.Layout.{InBounds}
 use Rattle.body.specs.Jumps.{setOf, jumpSets}
 use Rattle.body.proofs.Sweeps.{jump-at}
-use Rattle.gather.specs.Graph.{Graph, rowAt, inSet, handedOn, Gets, begins, handed, Listed}
+use Rattle.gather.specs.Graph.{Graph, rowAt, handedOn, Gets, begins, handed, Listed}
 use Rattle.rows.specs.Rows.{flat}
 use Rattle.rows.proofs.Overlays.{overlay-empty, overlay-references, overlay-firsts}
 use Rattle.graphs.specs.Graphs.{predecessorSet, predecessorSets, reachGraph, liveGraph}

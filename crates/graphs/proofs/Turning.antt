@@ -10,7 +10,7 @@ use native.Mathlib.Omega.{arith}
 use lib.Dec.{eqb}
 use lib.ListN.{length, getD, set, replicate}
 use Rattle.cache.specs.Cache.{rowFrom}
-use Rattle.cache.specs.Sets.{bits}
+use Rattle.cache.specs.Sets.{bits, inSet}
 use Rattle.cache.proofs.Masks.{bits-cong, bits-none}
 use Rattle.model.specs.Lists.{mem}
 use Rattle.model.specs.Tasks.{Task, block}
@@ -18,7 +18,6 @@ use Rattle.model.proofs.Paths.{successor-below}
 use Rattle.body.specs.Layout.{InBounds}
 use Rattle.body.specs.Jumps.{jumpSets}
 use Rattle.body.proofs.Sweeps.{jump-at, jumps-inside}
-use Rattle.gather.specs.Graph.{inSet}
 use Rattle.gather.proofs.Distinct.{not-true}
 use Rattle.graphs.specs.Graphs.{predecessorSet, predecessorSets}
 use Rattle.graphs.specs.Turned.{leadingTo, turned}

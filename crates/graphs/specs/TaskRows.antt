@@ -14,7 +14,7 @@ use Rattle.gather.specs.Gathered.{GatheredRows}
 abbrev pub test11 : ℕ → ℕ → Task → Bool
 test11 w n t = tooMany (reaching (wide w n) t) 24 || tooMany (living (wide w n) t) 24
 
--- what gathering the rows of one kind of states leaves: the answer is whether some block has more than 32; if none has, all are in memory
+-- what gathering the rows of one kind of states leaves: the answer is whether some block has more than 32; if none has, all are in memory, else what it holds is left open
 pub record KindRows (all : ℕ → List (List ℕ)) (rows counts : List ℕ) (full : Bool) : Type 0 where
   pub long : length rows ≡ 12288
   pub many : length counts ≡ 24

@@ -3,8 +3,7 @@ use mathlib.Core.List.{List, _++_}
 use Prim.Native.Nat.{ℕ, _-_}
 use lib.ListN.{getD, replicate}
 use Rattle.cache.specs.Cache.{rowFrom}
-use Rattle.cache.specs.Sets.{bits}
-use Rattle.gather.specs.Graph.{inSet}
+use Rattle.cache.specs.Sets.{bits, inSet}
 
 -- the blocks below B whose set has the block s
 abbrev pub leadingTo : List ℕ → ℕ → ℕ → ℕ

@@ -24,7 +24,8 @@ use rows::row_at;
 // No reference of any block.
 const NO_ROWS: [u16; 384] = [Row::NOTHING; 384];
 
-// The rows that blocks hand on to their successors, each overlaid by the last references of the block that gets it.
+// The rows that blocks hand on to their successors, each overlaid by the last references of the block that gets it. Left open is what
+// `gather` leaves open.
 fn gather_reaching(
     blocks: usize,
     sets: [u32; 24],
@@ -47,7 +48,8 @@ fn gather_reaching(
     )
 }
 
-// The rows that blocks hand on to their predecessors, each overlaid by the first references of the block that it leaves.
+// The rows that blocks hand on to their predecessors, each overlaid by the first references of the block that it leaves. Left open is
+// what `gather` leaves open.
 fn gather_live(
     blocks: usize,
     sets: [u32; 24],
@@ -71,7 +73,8 @@ fn gather_live(
     )
 }
 
-// The reaching states of each block of a body; true where some block has more than 32.
+// The reaching states of each block of a body; true where some block has more than 32. Left open are the order of a block's rows and what stands
+// after them, and after true all rows and counts.
 pub fn reaching_rows(body: &[u8], n: u8, rows: &mut [u16], counts: &mut [usize]) -> bool
     requires { ⌜ (keptOf (decode (now body)) ≡ true) × (0 < n) × (n ≤ 16) × (length (now rows) ≡ 12288) × (length (now counts) ≡ 24) ⌝ }
     ensures { λ r. ⌜ KindRows (reaching (wide 16 n) (taskOf (decode (now (body .entry))))) (now (rows .exit)) (now (counts .exit)) r ⌝ }
@@ -83,7 +86,8 @@ pub fn reaching_rows(body: &[u8], n: u8, rows: &mut [u16], counts: &mut [usize])
     gather_reaching(walked.blocks, jumps(body, walked), &last, rows, counts)
 }
 
-// The reaching and the live states of each block of a body, in a work area; true where some block has more than 32 of either.
+// The reaching and the live states of each block of a body, in a work area; true where some block has more than 32 of either. Left open are the
+// order of a block's rows, what stands after them and the area from 24,576 on, and after true the whole area and all counts.
 pub fn task_rows(
     body: &[u8],
     n: u8,

@@ -2,14 +2,14 @@
 -- U <= D; D <= U + the costs; for at most one preemption D = U + the costs. The disturbed row holds the same or a foreign block.
 use mathlib.Core.Path.{_≡_, refl, sym, ap, _∙_}
 use mathlib.Core.Logic.{_⊎_, inl, inr}
-use mathlib.Core.Bool.{Bool, true, false, not, _&&_, and-true, false≢true}
+use mathlib.Core.Bool.{Bool, true, false, not, _&&_, and-true, false≢true, cond}
 use mathlib.Core.List.{List, [], _∷_, _++_, append-nil}
 use Prim.Native.Nat.{ℕ, _+_, _≤_, _<_}
 use native.Mathlib.Omega.{arith}
 use lib.Dec.{eqb, ltb}
 use lib.ListN.{length}
 use borrow.Author.Tests.{eqb-true, ne-eqb, eq-eqb, ltb-true, ltb-false}
-use Rattle.cache.specs.Sum.{bit, pick}
+use Rattle.cache.specs.Sum.{bit}
 use Rattle.cache.specs.References.{nothing, Real, All}
 use Rattle.cache.specs.Cache.{Cache, held, emptyRow, hits, withReference, withReferences, misses}
 use Rattle.cache.specs.Firsts.{firstsOver}
@@ -62,7 +62,7 @@ module _ (k : Cache) where
   live-holds P [] a c q = inl (held-emptyRow k c q)
   live-holds P (m ∷ ms) a c q = rw (held-withReference k (firstsOver k ms (emptyRow k)) m c (length-firstsOver k ms (emptyRow k) (length-emptyRow k)) q) (go (eqb (k .place m) c) (live-holds P ms (a .1) c q))
     where
-      go : (b : Bool) → (held (firstsOver k ms (emptyRow k)) c ≡ nothing) ⊎ P (held (firstsOver k ms (emptyRow k)) c) → (pick b m (held (firstsOver k ms (emptyRow k)) c) ≡ nothing) ⊎ P (pick b m (held (firstsOver k ms (emptyRow k)) c))
+      go : (b : Bool) → (held (firstsOver k ms (emptyRow k)) c ≡ nothing) ⊎ P (held (firstsOver k ms (emptyRow k)) c) → (cond b m (held (firstsOver k ms (emptyRow k)) c) ≡ nothing) ⊎ P (cond b m (held (firstsOver k ms (emptyRow k)) c))
       go true h = inr (a .0)
       go false h = h
 
@@ -133,7 +133,7 @@ module _ (k : Cache) where
     near-withReference : (d u : List ℕ) (m : ℕ) → length d ≡ k .width → length u ≡ k .width → Near d u → Near (withReference k d m) (withReference k u m)
     near-withReference d u m ed eu n c q = rw (held-withReference k d m c ed q, held-withReference k u m c eu q) (go (eqb (k .place m) c) (n c q))
       where
-        go : (b : Bool) → (held d c ≡ held u c) ⊎ Other (held d c) → (pick b m (held d c) ≡ pick b m (held u c)) ⊎ Other (pick b m (held d c))
+        go : (b : Bool) → (held d c ≡ held u c) ⊎ Other (held d c) → (cond b m (held d c) ≡ cond b m (held u c)) ⊎ Other (cond b m (held d c))
         go true h = inl refl
         go false h = h
 

@@ -1,7 +1,7 @@
 -- Hits that preemptions turn into misses: how many there are at most, and exactly for one preemption, from any two rows.
 -- The idea: `gap` counts where the rows differ and the undisturbed one holds what comes next; a reference moves it to the lost hits.
 use mathlib.Core.Path.{_≡_, refl, sym, _∙_}
-use mathlib.Core.Bool.{Bool, true, false, not, _&&_, and-false}
+use mathlib.Core.Bool.{Bool, true, false, not, _&&_, and-false, cond}
 use mathlib.Core.List.{List, [], _∷_, _++_, append-nil}
 use Prim.Native.Nat.{ℕ, _+_, _≤_, _<_}
 use native.Mathlib.Nat.{add-zero}
@@ -10,7 +10,7 @@ use lib.Dec.{eqb}
 use lib.ListN.{length}
 use lib.Seq.{set-out}
 use borrow.Author.Tests.{eqb-true, ne-eqb, eq-eqb}
-use Rattle.cache.specs.Sum.{bit, pick}
+use Rattle.cache.specs.Sum.{bit}
 use Rattle.cache.specs.References.{nothing, Real, All}
 use Rattle.cache.specs.Cache.{Cache, held, emptyRow, hits, withReference, withReferences, misses}
 use Rattle.cache.specs.Firsts.{firstsOver}
@@ -24,8 +24,8 @@ use Rattle.model.proofs.Events.{Event, Ref, Preempt, own, refs, preempt
 
 -- a reference to m there: it is lost, or the two blocks agree from now on
 ref-cell : (b : Bool) (d u l m : ℕ) → Real m
-    → pick b (bit (eqb u m && not (eqb d m))) 0 + bit (agree (pick b m u) l && not (eqb (pick b m d) (pick b m u)))
-    ≡ bit (agree u (pick b m l) && not (eqb d u))
+    → cond b (bit (eqb u m && not (eqb d m))) 0 + bit (agree (cond b m u) l && not (eqb (cond b m d) (cond b m u)))
+    ≡ bit (agree u (cond b m l) && not (eqb d u))
 ref-cell false d u l m h = omega arith
 ref-cell true d u l m h = rw (eq-eqb m m refl, and-false) (go (eqb u m) refl)
   where

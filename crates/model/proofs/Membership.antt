@@ -46,6 +46,15 @@ sameList-true [] (b ∷ y) e = absurd (false≢true e)
 sameList-true (a ∷ x) [] e = absurd (false≢true e)
 sameList-true (a ∷ x) (b ∷ y) e = rw (eqb-true a b (both-left (eqb a b) (sameList x y) e), sameList-true x y (both-right (eqb a b) (sameList x y) e))
 
+-- a property of each row of a list is one of all its members
+pub each-of : (P : List ℕ → Type 0) (xs : List (List ℕ)) → ((x : List ℕ) → mem sameList x xs ≡ true → P x) → Each P xs
+each-of P [] h = tt
+each-of P (x ∷ xs) h = (h x (or-left (sameList x x) (mem sameList x xs) (sameList-self x)), each-of P xs (λ y e. h y (or-right (sameList y x) (mem sameList y xs) e)))
+
+pub each-at : (P : List ℕ → Type 0) (xs : List (List ℕ)) → Each P xs → (x : List ℕ) → mem sameList x xs ≡ true → P x
+each-at P [] h x e = absurd (false≢true e)
+each-at P (y ∷ xs) h x e = elim (or-cases (sameList x y) (mem sameList x xs) e) [ inl p ↦ rw (sameList-true x y p) (h .0) | inr p ↦ each-at P xs (h .1) x p ]
+
 pub sameState-self : (x : State) → sameState x x ≡ true
 sameState-self x = rw (eqb-self (x .0), sameList-self (x .1))
 

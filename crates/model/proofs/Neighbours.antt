@@ -23,7 +23,8 @@ use Rattle.model.specs.Demand.{pairSum}
 use Rattle.model.proofs.Membership.{or-cases, one-is}
 use Rattle.model.proofs.Sorted.{reaching-rows}
 use Rattle.model.proofs.Bounds.{bounded}
-use Rattle.model.proofs.Examples.{tasksE, byTask1, figure1}
+use Rattle.model.specs.Figures.{tasksE, figure1}
+use Rattle.model.proofs.Examples.{byTask1}
 
 -- ---- the tasks of E keep the rules
 

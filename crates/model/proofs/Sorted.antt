@@ -20,7 +20,7 @@ use Rattle.model.proofs.Most.{rowsAt-has, rowsAt-only}
 
 -- ---- dictionary order
 
-before-self : (r : List ℕ) → before r r ≡ false
+pub before-self : (r : List ℕ) → before r r ≡ false
 before-self [] = refl
 before-self (x ∷ r) = rw (le-ltb x x (omega arith), eq-eqb x x refl) (before-self r)
 
@@ -132,7 +132,7 @@ sorted-only (x ∷ xs) y e =
 
 -- ---- a rising list is known by its members
 
-below-all : (x : List ℕ) (xs : List (List ℕ)) → BeforeFirst x xs → Rising xs → (y : List ℕ) → mem sameList y xs ≡ true → before x y ≡ true
+pub below-all : (x : List ℕ) (xs : List (List ℕ)) → BeforeFirst x xs → Rising xs → (y : List ℕ) → mem sameList y xs ≡ true → before x y ≡ true
 below-all x [] b r y e = absurd (false≢true e)
 below-all x (z ∷ xs) b r y e = elim (or-cases (sameList y z) (mem sameList y xs) e)
     [ inl p ↦ rw (sameList-true y z p) b | inr p ↦ before-trans x z y b (below-all z xs (r .0) (r .1) y p) ]

@@ -1,5 +1,5 @@
 -- The reaching and live states and the pair number as functions that compute.
--- proofs/Exact shows that they are those of States and Numbers.
+-- proofs/Exact and Sorted show that the states are those of States, proofs/Most that the number is that of Numbers.
 use mathlib.Core.Bool.{Bool, true, false, _&&_, cond}
 use mathlib.Core.List.{List, [], _∷_, _++_, map}
 use Prim.Native.Nat.{ℕ, zero, suc, _*_, _^_}

@@ -7,3 +7,4 @@ pub mod Demand
 pub mod Order
 pub mod Computed
 pub mod OnPath
+pub mod Figures

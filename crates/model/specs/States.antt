@@ -1,8 +1,11 @@
 -- Document 01, "Paths and cache": reaching and live states, over paths. Definitions only.
 use mathlib.Core.Path.{_≡_}
-use mathlib.Core.List.{List, _∷_}
-use Prim.Native.Nat.{ℕ}
+use mathlib.Core.Logic.{_≢_, _⊎_}
+use mathlib.Core.List.{List, [], _∷_}
+use Prim.Native.Nat.{ℕ, _<_}
+use lib.ListN.{length}
 use Rattle.cache.specs.Cache.{Cache, emptyRow, withReferences, firstReferences}
+use Rattle.model.specs.Lists.{Each}
 use Rattle.model.specs.Tasks.{Task, PathFrom, end, references}
 
 -- "Reaching states of a block: rows after all its references, over every path from block 0 to it."
@@ -13,3 +16,19 @@ Reaches k t b row = (p : List ℕ) × PathFrom t 0 p b × (row ≡ withReference
 -- a complete path. At the end block stopping is one way on and gives the row of nothings.": there the way on p may be empty
 abbrev pub Lives : Cache → Task → ℕ → List ℕ → Type 0
 Lives k t b row = (p : List ℕ) × PathFrom t b p (end t) × (row ≡ firstReferences k (references t p))
+
+-- no two rows of the list are equal
+abbrev pub Different : List (List ℕ) → Type 0
+Different [] = Unit {0}
+Different (row ∷ rows) = Each (λ (other : List ℕ). row ≢ other) rows × Different rows
+
+-- there are 33 different rows that are states
+pub record ThirtyThree (State : List ℕ → Type 0) : Type 0 where
+  pub rows : List (List ℕ)
+  pub many : length rows ≡ 33
+  pub different : Different rows
+  pub states : Each State rows
+
+-- check 11: "a block with 33 or more reaching or live states"
+abbrev pub Fault11 : Cache → Task → Type 0
+Fault11 k t = (b : ℕ) × (b < length t) × (ThirtyThree (Reaches k t b) ⊎ ThirtyThree (Lives k t b))

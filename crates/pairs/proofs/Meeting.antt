@@ -146,25 +146,28 @@ module _ (sets counts : List ℕ) where
 
   module _ (tasks : ℕ) where
     pub once-none : (table numbers : List ℕ) → MetOnce [] sets counts tasks table numbers table numbers
-    once-none table numbers ms old e m = (e, m)
+    once-none table numbers ms e = (rw (append-nil ms) e, met-none tasks numbers)
 
     pub once-more : (a b : List ℕ) {t n t' n' t'' n'' : List ℕ} → MetOnce a sets counts tasks t n t' n' → MetOnce b sets counts tasks t' n' t'' n''
         → MetOnce (a ++ b) sets counts tasks t n t'' n''
-    once-more a b p q ms old e m = rw (distinct-append ms a b) (let r = p ms old e m in q (distinct ms a) old (r .0) (r .1))
+    once-more a b p q ms e =
+        let (had, met) = p ms e in
+        let (has, then) = q (ms ++ distinct ms a) had in
+        rw (distinct-append ms a b) (has ∙ ap seenTable (append-assoc ms (distinct ms a) (distinct (ms ++ distinct ms a) b)), met-append tasks met then)
 
     module _ (u : ℕ) {b : Bool} {table numbers : List ℕ} (told : (ms : List ℕ) → table ≡ seenTable ms → b ≡ mem eqb u ms) where
       -- a set that was met before
       pub once-old : not b ≡ false → MetOnce (u ∷ []) sets counts tasks table numbers table numbers
-      once-old h ms old e m =
+      once-old h ms e =
           let t : mem eqb u ms ≡ true = sym (told ms e) ∙ sym (Bool·not-not b) ∙ ap not h in
-          rw t (e, m)
+          rw t (rw (append-nil ms) e, met-none tasks numbers)
 
       -- and one that was not, which is marked and met
       pub once-new : {table' numbers' : List ℕ} → not b ≡ true → ((ms : List ℕ) → table ≡ seenTable ms → table' ≡ seenTable (ms ++ (u ∷ [])))
           → Met (u ∷ []) sets counts tasks numbers numbers' → MetOnce (u ∷ []) sets counts tasks table numbers table' numbers'
-      once-new h marked met ms old e m =
+      once-new h marked met ms e =
           let t : mem eqb u ms ≡ false = sym (told ms e) ∙ sym (Bool·not-not b) ∙ ap not h in
-          rw t (marked ms e, met-append tasks m met)
+          rw t (marked ms e, met)
 
     -- ---- the rows of a block and the blocks of a task: k of them are done
 
@@ -189,4 +192,4 @@ module _ (sets counts : List ℕ) where
 
     -- all sets, from a table of zeros
     pub once-all : (us : List ℕ) {table' old new : List ℕ} → MetOnce us sets counts tasks (replicate 1024 0) old table' new → Met us sets counts tasks old new
-    once-all us {old = old} p = met-same tasks (distinct [] us) us (λ f. best-distinct f us) (p [] old seen-none (met-none tasks old) .1)
+    once-all us p = met-same tasks (distinct [] us) us (λ f. best-distinct f us) (p [] seen-none .1)

@@ -2,13 +2,13 @@
 -- The sets found so far are those of the rows so far, and one row more adds its set or nothing.
 use mathlib.Core.Path.{_≡_, sym, ap, ap₂, _∙_}
 use mathlib.Core.Bool.{Bool, true, false, not, cond, Bool·not-not}
-use mathlib.Core.List.{List, [], _∷_, _++_, map, map-append}
+use mathlib.Core.List.{List, [], _∷_, _++_, map, map-append, append-nil}
 use Prim.Native.Nat.{ℕ, _+_, _-_, _*_, _≤_, _<_}
 use native.Mathlib.Numerals.{add-one}
 use native.Mathlib.Omega.{arith}
 use lib.Dec.{eqb}
 use lib.ListN.{length, getD, set, take, drop, drop-of-length-le}
-use lib.Seq.{drop-cons, getD-take, length-take-le, take-suc-set}
+use lib.Seq.{drop-cons, drop-drop, drop-set-lt, getD-take, length-take-le, take-suc-set}
 use borrow.Author.Tests.{eq-eqb, ne-eqb}
 use Rattle.model.specs.Lists.{mem}
 use Rattle.rows.specs.Rows.{rowsOf}
@@ -47,18 +47,22 @@ map-more f l k e =
 
 module _ (part sets : List ℕ) (k n v : ℕ) (is : v ≡ usedSet (take (16 * k + 16 - 16 * k) (drop (16 * k) part)))
     (done : take n sets ≡ distinct [] (map usedSet (rowsOf 16 k part))) where
-  more : distinct [] (map usedSet (rowsOf 16 (k + 1) part)) ≡ cond (mem eqb v (take n sets)) (take n sets) (take n sets ++ (v ∷ []))
+  more : distinct [] (map usedSet (rowsOf 16 (k + 1) part)) ≡ take n sets ++ cond (mem eqb v (take n sets)) [] (v ∷ [])
   more =
       ap (distinct []) (map-more usedSet part k is)
       ∙ distinct-append [] (map usedSet (rowsOf 16 k part)) (v ∷ [])
-      ∙ ap (λ (l : List ℕ). cond (mem eqb v l) l (l ++ (v ∷ []))) (sym done)
+      ∙ ap (λ (l : List ℕ). l ++ cond (mem eqb v l) [] (v ∷ [])) (sym done)
 
   -- where the search says that it is among them, and where not
   module _ {b : Bool} (has : b ≡ mem eqb v (take n sets)) where
     pub used-old : not b ≡ false → take n sets ≡ distinct [] (map usedSet (rowsOf 16 (k + 1) part))
-    used-old e = let t : mem eqb v (take n sets) ≡ true = sym has ∙ sym (Bool·not-not b) ∙ ap not e in sym (more ∙ rw t)
+    used-old e = let t : mem eqb v (take n sets) ≡ true = sym has ∙ sym (Bool·not-not b) ∙ ap not e in sym (more ∙ rw t (append-nil (take n sets)))
 
     pub used-new : not b ≡ true → n < length sets → take (n + 1) (set sets n v) ≡ distinct [] (map usedSet (rowsOf 16 (k + 1) part))
     used-new e h =
         let t : mem eqb v (take n sets) ≡ false = sym has ∙ sym (Bool·not-not b) ∙ ap not e in
         ap (λ (i : ℕ). take i (set sets n v)) (add-one n) ∙ take-suc-set sets n v h ∙ sym (more ∙ rw t)
+
+-- a set stored at n leaves those after it
+pub after-new : (first sets : List ℕ) (n v : ℕ) → drop n sets ≡ drop n first → drop (n + 1) (set sets n v) ≡ drop (n + 1) first
+after-new first sets n v e = drop-set-lt (n + 1) sets n v (omega arith) ∙ sym (drop-drop 1 n sets) ∙ ap (drop 1) e ∙ drop-drop 1 n first

@@ -18,10 +18,10 @@ usedSet row = bits 16 (used row)
 abbrev pub usefulSet : List ℕ → List ℕ → ℕ
 usefulSet reaching live = bits 16 (useful reaching live)
 
--- each number once, in the order in which they first come, after those of `acc`
+-- the numbers of a list that are not in `old`, each once, in the order in which they first come
 abbrev pub distinct : List ℕ → List ℕ → List ℕ
-distinct acc [] = acc
-distinct acc (x ∷ xs) = distinct (cond (mem eqb x acc) acc (acc ++ (x ∷ []))) xs
+distinct old [] = []
+distinct old (x ∷ xs) = cond (mem eqb x old) (distinct old xs) (x ∷ distinct (old ++ (x ∷ [])) xs)
 
 -- the most cache blocks that a set has in common with one of some sets
 abbrev pub mostCommon : ℕ → List ℕ → ℕ
@@ -57,9 +57,8 @@ pub record Met (us sets counts : List ℕ) (tasks : ℕ) (old new : List ℕ) : 
   pub each : (j : ℕ) → j < tasks → getD new j 0 ≡ max (getD old j 0) (best (λ (u : ℕ). mostCommon u (usedOf sets counts j)) us)
   pub rest : (j : ℕ) → tasks ≤ j → getD new j 0 ≡ getD old j 0
 
--- the sets us are met, each once: where the table has the sets ms and the numbers are what these made of `old`, the table then has
--- the sets of both, and the numbers are what those make of `old`
+-- the sets us are met, each once: if the table has the sets ms, those of us that are not in ms are met, and the table has them too. Every table
+-- is that of some list (`every-table` of crate seen), so table' and numbers' are told for every table
 abbrev pub MetOnce : List ℕ → List ℕ → List ℕ → ℕ → List ℕ → List ℕ → List ℕ → List ℕ → Type 0
 MetOnce us sets counts tasks table numbers table' numbers' =
-    (ms old : List ℕ) → table ≡ seenTable ms → Met ms sets counts tasks old numbers
-    → (table' ≡ seenTable (distinct ms us)) × Met (distinct ms us) sets counts tasks old numbers'
+    (ms : List ℕ) → table ≡ seenTable ms → (table' ≡ seenTable (ms ++ distinct ms us)) × Met (distinct ms us) sets counts tasks numbers numbers'

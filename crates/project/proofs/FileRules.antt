@@ -1,10 +1,9 @@
 -- The tasks of an accepted file keep the rules: `file-rules`. So demand 3 holds of them, and equal n and tasks give equal pair numbers.
--- What reading computes is the verdict of the definitions: `the-verdict`.
 -- The idea: checks 8, 9 and 10 that pass are the rules, body by body.
-use mathlib.Core.Path.{_≡_, refl, ap, _∙_}
+use mathlib.Core.Path.{_≡_, refl, ap, subst, _∙_}
 use mathlib.Core.Logic.{_≢_}
 use mathlib.Core.Bool.{Bool, true, false, false≢true}
-use mathlib.Core.List.{List, [], _∷_}
+use mathlib.Core.List.{List, [], _∷_, map}
 use Prim.Native.Nat.{ℕ, zero, suc, _≤_, _<_}
 use native.Mathlib.Nat.{not-suc-le-zero}
 use native.Mathlib.Omega.{arith}
@@ -21,20 +20,17 @@ use Rattle.model.proofs.Demand.{demand-3}
 use Rattle.body.specs.Layout.{InBounds, bodyBytes}
 use Rattle.body.specs.Decode.{decoded, decode, taskOf}
 use Rattle.body.proofs.Decoded.{decoded-layout, decoded-real}
-use Rattle.project.specs.declared.answers.Check.{Check}
 use Rattle.project.specs.declared.answers.Check.the-variants.{Passed}
-use Rattle.project.specs.declared.answers.Check.the-variants.{Refused as Failed}
-use Rattle.project.specs.declared.answers.Reading.{Reading}
 use Rattle.project.specs.declared.answers.Reading.the-variants.{Accepted}
 use Rattle.project.specs.File.{cacheBlocks, taskCount, bodies}
-use Rattle.project.specs.Checks.{body, Fault8, Fault9, Fault10}
-use Rattle.project.specs.Reading.{lowest, test8, test9, sharing, tasksCheck, readingOf}
-use Rattle.project.specs.Verdict.{Verdict}
+use Rattle.project.specs.Checks.{body, Fault10}
+use Rattle.project.specs.Checklist.{Verdict, lowest}
+use Rattle.project.specs.Reading.{test8, test9, taskChecks, tasksCheck, readingOf}
 use Rattle.project.specs.Tasks.{tasksIn, tasksOf, filePair}
-use Rattle.project.proofs.TaskFaults.{Bytes, kept-task, TasksOutcome, at8, at9, at10, fine, tasks-outcome}
-use Rattle.project.proofs.Verdicts.{bodies-bytes, reading-verdict}
-use Rattle.project.proofs.ContentsLaws.{contents-exact}
-use Rattle.project.proofs.Accepted.{then-passed, none-lowest, Passing, passing, accepted-passed}
+use Rattle.project.proofs.Checklists.{verdict-exact}
+use Rattle.project.proofs.TaskFaults.{Bytes, kept-task, tasks-agreeing}
+use Rattle.project.proofs.Verdicts.{bodies-bytes}
+use Rattle.project.proofs.Accepted.{then-passed, none-lowest, tasks-kept, passing, accepted-passed}
 
 pub each-at : (P : List ℕ → Type 0) (bs : List (List ℕ)) → Each P bs → (j : ℕ) → j < length bs → P (body bs j)
 each-at P [] h j l = absurd (not-suc-le-zero l)
@@ -52,24 +48,15 @@ beyond bs j h = List·getD-eq-default (tasksIn bs) [] {n = j} (rw length-map h)
 
 module _ (bs : List (List ℕ)) (bytes : (i : ℕ) → i < length bs → Bytes (body bs i)) (ok : tasksCheck bs ≡ Passed) where
   kept : (j : ℕ) → j < length bs → test8 (body bs j) ≡ false
-  kept = each-at (λ (b : List ℕ). test8 b ≡ false) bs (none-lowest 8 test8 0 bs (then-passed (lowest 8 test8 0 bs) _ ok .0))
+  kept = each-at (λ (b : List ℕ). test8 b ≡ false) bs (tasks-kept bs ok)
 
   on-path : (j : ℕ) → j < length bs → test9 (body bs j) ≡ false
   on-path =
       each-at (λ (b : List ℕ). test9 b ≡ false) bs
-      (none-lowest 9 test9 0 bs (then-passed (lowest 9 test9 0 bs) (sharing [] 0 bs) (then-passed (lowest 8 test8 0 bs) _ ok .1) .0))
+      (none-lowest 9 0 test9 bs (then-passed (lowest 9 0 (map test9 bs)) _ (then-passed (lowest 8 0 (map test8 bs)) _ ok .1) .0))
 
   no-sharing : (j : ℕ) → Fault10 bs j → ⊥
-  no-sharing = go (tasks-outcome bs bytes)
-    where
-      never : (c a : ℕ) → tasksCheck bs ≡ Failed c a → ⊥
-      never c a e = let z : _≡_ {A = ℕ} 0 1 = cc in omega arith
-
-      go : TasksOutcome bs (tasksCheck bs) → (j : ℕ) → Fault10 bs j → ⊥
-      go (at8 j q f) i x = never 8 j q
-      go (at9 j q f n8) i x = never 9 j q
-      go (at10 j q f n8 n9) i x = never 10 j q
-      go (fine q n8 n9 n10) i x = n10 i x
+  no-sharing = subst (Verdict (taskChecks bs)) ok (verdict-exact (taskChecks bs) (tasks-agreeing bs bytes)) .1 .1 .0
 
   -- the task of body j, with its bytes
   pub record At (j : ℕ) : Type 0 where
@@ -137,7 +124,3 @@ file-demand-3 s h n t e = demand-3 n (tasksOf s) (file-rules s h n t e)
 pub pair-agrees : (r s : List ℕ) (i j k l : ℕ) → cacheBlocks r ≡ cacheBlocks s → task (tasksOf r) i ≡ task (tasksOf s) k → task (tasksOf r) j ≡ task (tasksOf s) l
     → filePair r i j ≡ filePair s k l
 pair-agrees r s i j k l n a b = rw (n, a, b)
-
--- the reading of every list of bytes is the verdict on it
-pub the-verdict : (s : List ℕ) → Bytes s → Verdict s (readingOf s)
-the-verdict s h = reading-verdict s h (contents-exact s)

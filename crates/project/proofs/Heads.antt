@@ -1,17 +1,16 @@
 -- The mark's test as it is computed, and what checks 2 to 6 answer where a test of theirs holds.
 -- The idea: a test that holds just where two lists are equal is the computed one; each check stops the chain where its test holds.
 use mathlib.Core.Path.{_≡_, refl, sym, ap, _∙_}
-use mathlib.Core.Bool.{Bool, true, false, not, _||_}
+use mathlib.Core.Bool.{Bool, true, false, _||_}
 use mathlib.Core.List.{List}
 use Prim.Native.Nat.{ℕ, _≤_, _<_}
-use lib.Dec.{eqb, ltb}
-use lib.ListN.{getD}
+use lib.Dec.{ltb}
 use borrow.Author.Tests.{lt-ltb, le-ltb}
 use Rattle.model.specs.Computed.{sameList}
 use Rattle.model.proofs.Membership.{sameList-self, sameList-true}
 use Rattle.project.specs.declared.answers.Check.the-variants.{Passed}
 use Rattle.project.specs.declared.answers.Check.the-variants.{Refused as Failed}
-use Rattle.project.specs.File.{cacheBlocks, taskCount}
+use Rattle.project.specs.File.{cacheBlocks}
 use Rattle.project.specs.Reading.{test2, test3, test4, test5, test6, headCheck}
 
 pub same-test : (r : Bool) (a b : List ℕ) → (r ≡ true → a ≡ b) → (a ≡ b → r ≡ true) → r ≡ sameList a b
@@ -45,10 +44,6 @@ module _ (s : List ℕ) where
   abbrev pub Past5 : Type 0
   Past5 = Past4 × (test5 (cacheBlocks s) ≡ false)
 
-  -- the test of check 6
-  abbrev pub test67 : Bool
-  test67 = test6 (taskCount s) || not (eqb (getD s 7 0) 0)
-
   pub at2 : test2 s ≡ true → headCheck s ≡ Failed 2 255
   at2 e2 = rw e2
 
@@ -61,8 +56,8 @@ module _ (s : List ℕ) where
   pub at5 : Past4 → test5 (cacheBlocks s) ≡ true → headCheck s ≡ Failed 5 255
   at5 ((e2, e3), e4) e5 = rw (e2, e3, e4, e5)
 
-  pub at6 : Past5 → test67 ≡ true → headCheck s ≡ Failed 6 255
+  pub at6 : Past5 → test6 s ≡ true → headCheck s ≡ Failed 6 255
   at6 (((e2, e3), e4), e5) e6 = rw (e2, e3, e4, e5, e6)
 
-  pub at-none : Past5 → test67 ≡ false → headCheck s ≡ Passed
+  pub at-none : Past5 → test6 s ≡ false → headCheck s ≡ Passed
   at-none (((e2, e3), e4), e5) e6 = rw (e2, e3, e4, e5, e6)

@@ -1,3 +1,4 @@
+pub mod Checklists
 pub mod TaskFaults
 pub mod Verdicts
 pub mod RoundTrips

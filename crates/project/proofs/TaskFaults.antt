@@ -1,65 +1,31 @@
--- The computed checks 8 to 10 over bodies find exactly the lowest fault of the definitions: `tasks-outcome`.
--- The idea: each check is a test at each number; the first number that passes it is the lowest fault, and none passing is no fault.
+-- The tests of checks 8 to 10 hold exactly when their faults are there, for each body: `tasks-agreeing`.
+-- The idea: a body decodes exactly when it keeps its layout, and then to the task whose bytes it is.
 use mathlib.Core.Path.{_≡_, refl, sym, ap, _∙_}
-use mathlib.Core.Logic.{_⊎_, inl, inr}
-use mathlib.Core.Bool.{Bool, true, false, cond, true≢false, false≢true}
-use mathlib.Core.List.{List, [], _∷_, _++_, append-nil, append-assoc}
-use Prim.Native.Nat.{ℕ, zero, suc, _+_, _<_}
-use native.Mathlib.Nat.{zero-add, add-zero, add-suc, suc-add, not-suc-le-zero}
+use mathlib.Core.Logic.{_⊎_, inl, inr, _↔_}
+use mathlib.Core.Bool.{Bool, true, false, true≢false, false≢true}
+use mathlib.Core.List.{List, [], _∷_, _++_, map, append-nil, append-assoc}
+use Prim.Native.Nat.{ℕ, zero, suc, _<_}
+use native.Mathlib.Nat.{not-suc-le-zero}
 use native.Mathlib.Omega.{arith}
 use lib.Dec.{eqb}
-use lib.ListN.{length}
+use lib.ListN.{length, getD}
 use borrow.Author.Tests.{eqb-true, not-true, not-false}
 use Rattle.cache.specs.References.{All}
-use Rattle.model.specs.Lists.{mem, Each}
-use Rattle.model.specs.Tasks.{Task, OnCompletePath, memoryBlocks, Share}
+use Rattle.model.specs.Lists.{mem}
+use Rattle.model.specs.Tasks.{Task, OnCompletePath, memoryBlocks}
 use Rattle.model.specs.OnPath.{onPath, onPathBelow, allOnPath}
 use Rattle.model.proofs.Membership.{or-cases, or-left, or-right, eqb-self, mem-append-left, mem-append-right, mem-append-cases}
 use Rattle.model.proofs.OnPath.{onPath-exact, allOnPath-exact}
-use Rattle.body.specs.Layout.{Layout, InBounds}
 use Rattle.body.specs.Decode.{Decoded, broken, decoded, decode, taskOf}
 use Rattle.body.specs.Walk.{keptOf}
 use Rattle.body.proofs.Decoded.{decode-bytes, decoded-layout, broken-no-layout}
-use Rattle.project.specs.declared.answers.Check.{Check}
-use Rattle.project.specs.declared.answers.Check.the-variants.{Passed}
-use Rattle.project.specs.declared.answers.Check.the-variants.{Refused as Failed}
 use Rattle.project.specs.Checks.{body, Fault8, Fault9, Fault10}
-use Rattle.project.specs.Verdict.{Lowest}
-use Rattle.project.specs.Reading.{lowest, test8, test9, meets, sharing, tasksCheck}
+use Rattle.project.specs.Checklist.{Of, Agreeing}
+use Rattle.project.specs.Reading.{test8, test9, meets, sharings, taskChecks}
+use Rattle.project.proofs.Checklists.{of-exact}
 
 abbrev pub Bytes : List ℕ → Type 0
 Bytes s = All (λ (x : ℕ). x < 256) s
-
--- ---- the first number that passes a test
-
-pub data Found (c : ℕ) (P : ℕ → Bool) (len from : ℕ) (r : Check) : Type 0 where
-  first : (j : ℕ) → j < len → r ≡ Failed c (from + j) → P j ≡ true → ((i : ℕ) → i < j → P i ≡ false) → Found c P len from r
-  none : r ≡ Passed → ((i : ℕ) → i < len → P i ≡ false) → Found c P len from r
-
-found-now : (c : ℕ) (P : ℕ → Bool) (len from : ℕ) → P 0 ≡ true → Found c P (suc len) from (Failed c from)
-found-now c P len from e = first 0 (omega arith) (ap (Failed c) (sym (add-zero from))) e (λ i h. absurd (not-suc-le-zero h))
-
-both-false : (P : ℕ → Bool) → P 0 ≡ false → (i : ℕ) → ((h : ℕ) → suc h ≡ i → P (suc h) ≡ false) → P i ≡ false
-both-false P e zero h = e
-both-false P e (suc i) h = h i refl
-
-found-later : (c : ℕ) (P : ℕ → Bool) (len from : ℕ) (r : Check) → P 0 ≡ false → Found c (λ j. P (suc j)) len (suc from) r → Found c P (suc len) from r
-found-later c P len from r e (first j l q t f) =
-    first (suc j) (omega arith) (q ∙ ap (Failed c) (suc-add from j ∙ sym (add-suc from j))) t (λ i h. both-false P e i (λ k z. f k (omega arith)))
-found-later c P len from r e (none q f) = none q (λ i h. both-false P e i (λ k z. f k (omega arith)))
-
-found-same : (c : ℕ) (P Q : ℕ → Bool) (len from : ℕ) (r : Check) → ((j : ℕ) → P j ≡ Q j) → Found c P len from r → Found c Q len from r
-found-same c P Q len from r h (first j l q t f) = first j l q (sym (h j) ∙ t) (λ i b. sym (h i) ∙ f i b)
-found-same c P Q len from r h (none q f) = none q (λ i b. sym (h i) ∙ f i b)
-
-lowest-found : (c : ℕ) (test : List ℕ → Bool) (bs : List (List ℕ)) (from : ℕ) → Found c (λ j. test (body bs j)) (length bs) from (lowest c test from bs)
-lowest-found c test [] from = none refl (λ i h. absurd (not-suc-le-zero h))
-lowest-found c test (b ∷ bs) from = go (test b) refl (lowest-found c test bs (suc from))
-  where
-    go : (s : Bool) → test b ≡ s → Found c (λ j. test (body bs j)) (length bs) (suc from) (lowest c test (suc from) bs)
-        → Found c (λ j. test (body (b ∷ bs) j)) (length (b ∷ bs)) from (cond s (Failed c from) (lowest c test (suc from) bs))
-    go true e ih = found-now c (λ j. test (body (b ∷ bs) j)) (length bs) from e
-    go false e ih = found-later c (λ j. test (body (b ∷ bs) j)) (length bs) from (lowest c test (suc from) bs) e ih
 
 -- the memory blocks of the task of a body, and of the bodies before number j
 abbrev blocksIn : List ℕ → List ℕ
@@ -70,22 +36,16 @@ earlier [] j = []
 earlier (b ∷ bs) zero = []
 earlier (b ∷ bs) (suc j) = blocksIn b ++ earlier bs j
 
-shares-at : List ℕ → List (List ℕ) → ℕ → Bool
-shares-at seen bs j = meets (blocksIn (body bs j)) (seen ++ earlier bs j)
-
-sharing-found : (bs : List (List ℕ)) (seen : List ℕ) (from : ℕ) → Found 10 (shares-at seen bs) (length bs) from (sharing seen from bs)
-unfolding earlier shares-at
-sharing-found [] seen from = none refl (λ i h. absurd (not-suc-le-zero h))
-sharing-found (b ∷ bs) seen from = go (meets (blocksIn b) seen) refl (sharing-found bs (seen ++ blocksIn b) (suc from))
-  where
-    at-first : (s : Bool) → meets (blocksIn b) seen ≡ s → shares-at seen (b ∷ bs) 0 ≡ s
-    at-first s e = rw append-nil e
-
-    go : (s : Bool) → meets (blocksIn b) seen ≡ s → Found 10 (shares-at (seen ++ blocksIn b) bs) (length bs) (suc from) (sharing (seen ++ blocksIn b) (suc from) bs)
-        → Found 10 (shares-at seen (b ∷ bs)) (length (b ∷ bs)) from (cond s (Failed 10 from) (sharing (seen ++ blocksIn b) (suc from) bs))
-    go true e ih = found-now 10 (shares-at seen (b ∷ bs)) (length bs) from (at-first true e)
-    go false e ih = found-later 10 (shares-at seen (b ∷ bs)) (length bs) from (sharing (seen ++ blocksIn b) (suc from) bs) (at-first false e) (found-same 10 (shares-at (seen ++ blocksIn b) bs) (λ j. shares-at seen (b ∷ bs) (suc j)) (length bs) (suc from) (sharing (seen ++ blocksIn b) (suc from) bs)
-        (λ j. ap (meets (blocksIn (body bs j))) (append-assoc seen (blocksIn b) (earlier bs j))) ih)
+-- the test of check 10 of task j, where `seen` come before the first body
+sharings-at : (seen : List ℕ) (bs : List (List ℕ)) (j : ℕ)
+    → (getD (sharings seen bs) j false ≡ true) ↔ ((j < length bs) × (meets (blocksIn (body bs j)) (seen ++ earlier bs j) ≡ true))
+unfolding earlier
+sharings-at seen [] j = (λ e. absurd (false≢true e), λ h. absurd (not-suc-le-zero (h .0)))
+sharings-at seen (b ∷ bs) zero = (λ e. (omega arith, rw append-nil e), λ h. rw append-nil at (h .1))
+sharings-at seen (b ∷ bs) (suc j) =
+    let ih = sharings-at (seen ++ blocksIn b) bs j in
+    let same = ap (meets (blocksIn (body bs j))) (append-assoc seen (blocksIn b) (earlier bs j)) in
+    (λ e. let (l, h) = ih .0 e in (omega arith, sym same ∙ h), λ h. ih .1 (omega (arith, h .0), same ∙ h .1))
 
 -- ---- check 8
 
@@ -103,11 +63,12 @@ broken-body b e = go (decode b) refl (not-true (keptOf (decode b)) e)
     go broken q k = q
     go (decoded t) q k = absurd (true≢false (rw q at k))
 
-fault8 : (bs : List (List ℕ)) (j : ℕ) → j < length bs → test8 (body bs j) ≡ true → Fault8 bs j
-fault8 bs j l e = (l, broken-no-layout (body bs j) (broken-body (body bs j) e))
-
-no-fault8 : (bs : List (List ℕ)) (j : ℕ) → Bytes (body bs j) → test8 (body bs j) ≡ false → Fault8 bs j → ⊥
-no-fault8 bs j h e (l, f) = let (t, q) = kept-task (body bs j) e in let (i, z) = decoded-layout (body bs j) t h q in f (t, i, z)
+pub exact8 : (b : List ℕ) → Bytes b → (test8 b ≡ true) ↔ Fault8 b
+exact8 b h = (λ e. broken-no-layout b (broken-body b e), λ f. go f (test8 b) refl)
+  where
+    go : Fault8 b → (s : Bool) → test8 b ≡ s → test8 b ≡ true
+    go f true e = e
+    go f false e = let (t, q) = kept-task b e in let (i, z) = decoded-layout b t h q in absurd (f (t, i, z))
 
 -- ---- check 9
 
@@ -120,15 +81,19 @@ off-path t (suc n) e = go (onPath t n) refl (off-path t n)
     go true q ih = let (b, l, f) = ih (rw q at e) in (b, omega arith, f)
     go false q ih = (n, omega arith, λ p. true≢false (sym (onPath-exact t n .1 p) ∙ q))
 
-fault9 : (bs : List (List ℕ)) (j : ℕ) → j < length bs → Bytes (body bs j) → test8 (body bs j) ≡ false → test9 (body bs j) ≡ true → Fault9 bs j
-fault9 bs j l h k e =
-    let (t, q) = kept-task (body bs j) k in
-    let (i, z) = decoded-layout (body bs j) t h q in
-    let (b, m, f) = off-path t (length t) (not-true (allOnPath t) (rw q at e)) in
-    (l, t, z, i, b, m, f)
+pub exact9 : (b : List ℕ) → Bytes b → test8 b ≡ false → (test9 b ≡ true) ↔ Fault9 b
+exact9 b h k = (there, λ f. go f (test9 b) refl)
+  where
+    there : test9 b ≡ true → Fault9 b
+    there e =
+        let (t, q) = kept-task b k in
+        let (i, z) = decoded-layout b t h q in
+        let (n, m, f) = off-path t (length t) (not-true (allOnPath t) (rw q at e)) in
+        (t, z, i, n, m, f)
 
-no-fault9 : (bs : List (List ℕ)) (j : ℕ) → test9 (body bs j) ≡ false → Fault9 bs j → ⊥
-no-fault9 bs j e (l, t, z, i, b, m, f) = f (allOnPath-exact t .0 (not-false (allOnPath t) (rw (z, decode-bytes t i) at e)) b m)
+    go : Fault9 b → (s : Bool) → test9 b ≡ s → test9 b ≡ true
+    go f true e = e
+    go (t, z, i, n, m, f) false e = absurd (f (allOnPath-exact t .0 (not-false (allOnPath t) (rw (z, decode-bytes t i) at e)) n m))
 
 -- ---- check 10
 
@@ -170,46 +135,42 @@ earlier-only (b ∷ bs) (suc j) m h e = go (mem-append-cases eqb eqb-self eqb-tr
 task-block : (b : List ℕ) (t : Task) (m : ℕ) → decode b ≡ decoded t → mem eqb m (blocksIn b) ≡ true → mem eqb m (memoryBlocks t) ≡ true
 task-block b t m q e = rw q at e
 
-fault10 : (bs : List (List ℕ)) (j : ℕ) → j < length bs → ((i : ℕ) → i < length bs → Bytes (body bs i)) → ((i : ℕ) → i < length bs → test8 (body bs i) ≡ false)
-    → shares-at [] bs j ≡ true → Fault10 bs j
-unfolding shares-at
-fault10 bs j l h k e =
-    let (m, p, q) = meets-only (blocksIn (body bs j)) (earlier bs j) e in
-    let (i, li, r) = earlier-only bs j m l q in
-    let hi : i < length bs = omega arith in
-    let (t, dt) = kept-task (body bs i) (k i hi) in
-    let (u, du) = kept-task (body bs j) (k j l) in
-    let (bt, zt) = decoded-layout (body bs i) t (h i hi) dt in
-    let (bu, zu) = decoded-layout (body bs j) u (h j l) du in
-    (l, i, li, t, zt, bt, u, zu, bu, (m, task-block (body bs i) t m dt r, task-block (body bs j) u m du p))
+exact10 : (bs : List (List ℕ)) → ((i : ℕ) → i < length bs → Bytes (body bs i)) → ((i : ℕ) → i < length bs → test8 (body bs i) ≡ false)
+    → (j : ℕ) → (getD (sharings [] bs) j false ≡ true) ↔ Fault10 bs j
+exact10 bs h k j = (there, back)
+  where
+    there : getD (sharings [] bs) j false ≡ true → Fault10 bs j
+    there e =
+        let (l, x) = sharings-at [] bs j .0 e in
+        let (m, p, q) = meets-only (blocksIn (body bs j)) (earlier bs j) x in
+        let (i, li, r) = earlier-only bs j m l q in
+        let hi : i < length bs = omega arith in
+        let (t, dt) = kept-task (body bs i) (k i hi) in
+        let (u, du) = kept-task (body bs j) (k j l) in
+        let (bt, zt) = decoded-layout (body bs i) t (h i hi) dt in
+        let (bu, zu) = decoded-layout (body bs j) u (h j l) du in
+        (l, i, li, t, zt, bt, u, zu, bu, (m, task-block (body bs i) t m dt r, task-block (body bs j) u m du p))
 
-no-fault10 : (bs : List (List ℕ)) (j : ℕ) → shares-at [] bs j ≡ false → Fault10 bs j → ⊥
-unfolding shares-at
-no-fault10 bs j e (l, i, li, t, zt, bt, u, zu, bu, (m, p, q)) =
-    true≢false (sym (meets-has (blocksIn (body bs j)) (earlier bs j) m (rw (zu, decode-bytes u bu) q) (earlier-has bs i j m li l (rw (zt, decode-bytes t bt) p))) ∙ e)
+    back : Fault10 bs j → getD (sharings [] bs) j false ≡ true
+    back (l, i, li, t, zt, bt, u, zu, bu, (m, p, q)) =
+        sharings-at [] bs j .1
+        (l, meets-has (blocksIn (body bs j)) (earlier bs j) m (rw (zu, decode-bytes u bu) q) (earlier-has bs i j m li l (rw (zt, decode-bytes t bt) p)))
 
 -- ---- the three checks together
 
-pub data TasksOutcome (bs : List (List ℕ)) (r : Check) : Type 0 where
-  at8 : (j : ℕ) → r ≡ Failed 8 j → Lowest (Fault8 bs) j → TasksOutcome bs r
-  at9 : (j : ℕ) → r ≡ Failed 9 j → Lowest (Fault9 bs) j → ((i : ℕ) → Fault8 bs i → ⊥) → TasksOutcome bs r
-  at10 : (j : ℕ) → r ≡ Failed 10 j → Lowest (Fault10 bs) j → ((i : ℕ) → Fault8 bs i → ⊥) → ((i : ℕ) → Fault9 bs i → ⊥) → TasksOutcome bs r
-  fine : r ≡ Passed → ((i : ℕ) → Fault8 bs i → ⊥) → ((i : ℕ) → Fault9 bs i → ⊥) → ((i : ℕ) → Fault10 bs i → ⊥) → TasksOutcome bs r
-
-pub tasks-outcome : (bs : List (List ℕ)) → ((i : ℕ) → i < length bs → Bytes (body bs i)) → TasksOutcome bs (tasksCheck bs)
-tasks-outcome bs h = eight (lowest-found 8 test8 bs 0)
+pub tasks-agreeing : (bs : List (List ℕ)) → ((i : ℕ) → i < length bs → Bytes (body bs i)) → Agreeing (taskChecks bs)
+tasks-agreeing bs h = (eight, λ p8. (nine (kept p8), λ p9. (exact10 bs h (kept p8), λ p10. tt)))
   where
-    ten : ((i : ℕ) → i < length bs → test8 (body bs i) ≡ false) → ((i : ℕ) → Fault8 bs i → ⊥) → ((i : ℕ) → Fault9 bs i → ⊥)
-        → lowest 8 test8 0 bs ≡ Passed → lowest 9 test9 0 bs ≡ Passed → Found 10 (shares-at [] bs) (length bs) 0 (sharing [] 0 bs) → TasksOutcome bs (tasksCheck bs)
-    ten k no8 no9 p8 p9 (first j l q e f) =
-        at10 j (rw (p8, p9) (q ∙ ap (Failed 10) (zero-add j))) (fault10 bs j l h k e, λ i b. no-fault10 bs i (f i b)) no8 no9
-    ten k no8 no9 p8 p9 (none q f) = fine (rw (p8, p9) q) no8 no9 (λ i x. no-fault10 bs i (f i (x .0)) x)
+    eight : (j : ℕ) → (getD (map test8 bs) j false ≡ true) ↔ Of Fault8 [] bs j
+    eight = of-exact test8 Fault8 [] bs (λ j l. exact8 (body bs j) (h j l))
 
-    nine : ((i : ℕ) → i < length bs → test8 (body bs i) ≡ false) → ((i : ℕ) → Fault8 bs i → ⊥) → lowest 8 test8 0 bs ≡ Passed
-        → Found 9 (λ j. test9 (body bs j)) (length bs) 0 (lowest 9 test9 0 bs) → TasksOutcome bs (tasksCheck bs)
-    nine k no8 p8 (first j l q e f) = at9 j (rw (p8, q) (ap (Failed 9) (zero-add j))) (fault9 bs j l (h j l) (k j l) e, λ i b. no-fault9 bs i (f i b)) no8
-    nine k no8 p8 (none q f) = ten k no8 (λ i x. no-fault9 bs i (f i (x .0)) x) p8 q (sharing-found bs [] 0)
+    -- no fault of check 8 leaves each body kept
+    kept : ((j : ℕ) → Of Fault8 [] bs j → ⊥) → (i : ℕ) → i < length bs → test8 (body bs i) ≡ false
+    kept none i l = go (test8 (body bs i)) refl
+      where
+        go : (s : Bool) → test8 (body bs i) ≡ s → test8 (body bs i) ≡ false
+        go true e = absurd (none i (l, exact8 (body bs i) (h i l) .0 e))
+        go false e = e
 
-    eight : Found 8 (λ j. test8 (body bs j)) (length bs) 0 (lowest 8 test8 0 bs) → TasksOutcome bs (tasksCheck bs)
-    eight (first j l q e f) = at8 j (rw q (ap (Failed 8) (zero-add j))) (fault8 bs j l e, λ i b. no-fault8 bs i (h i (omega arith)) (f i b))
-    eight (none q f) = nine f (λ i x. no-fault8 bs i (h i (x .0)) (f i (x .0)) x) q (lowest-found 9 test9 bs 0)
+    nine : ((i : ℕ) → i < length bs → test8 (body bs i) ≡ false) → (j : ℕ) → (getD (map test9 bs) j false ≡ true) ↔ Of Fault9 [] bs j
+    nine k = of-exact test9 Fault9 [] bs (λ j l. exact9 (body bs j) (h j l) (k j l))

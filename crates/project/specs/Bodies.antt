@@ -1,5 +1,5 @@
 -- Document 01, "Calls": Body. Definitions only.
-use mathlib.Core.Bool.{Bool, true, false, _&&_}
+use mathlib.Core.Bool.{Bool, true, false, _&&_, cond}
 use mathlib.Core.List.{List, []}
 use Prim.Native.Nat.{ℕ}
 use lib.Dec.{ltb}
@@ -16,21 +16,13 @@ accepted (Refused c a) = false
 abbrev pub hasBody : List ℕ → ℕ → Bool
 hasBody s j = accepted (readingOf s) && ltb j (taskCount s)
 
-abbrev pub pickNumber : Bool → ℕ → ℕ
-pickNumber true x = x
-pickNumber false x = 0
-
-abbrev pub pickPart : Bool → List ℕ → List ℕ
-pickPart true l = l
-pickPart false l = []
-
 -- where the body of task j stands and how long it is; an empty part at 0 where there is none
 abbrev pub placeStart : List ℕ → ℕ → ℕ
-placeStart s j = pickNumber (hasBody s j) (offsetOf s j)
+placeStart s j = cond (hasBody s j) (offsetOf s j) 0
 
 abbrev pub placeLength : List ℕ → ℕ → ℕ
-placeLength s j = pickNumber (hasBody s j) (sizeOf s j)
+placeLength s j = cond (hasBody s j) (sizeOf s j) 0
 
 -- "Body hands back a task's body as that part of the file"
 abbrev pub bodyPart : List ℕ → ℕ → List ℕ
-bodyPart s j = pickPart (hasBody s j) (bodyOf s j)
+bodyPart s j = cond (hasBody s j) (bodyOf s j) []

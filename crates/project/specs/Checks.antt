@@ -1,5 +1,4 @@
--- Document 01, "Numbers of the checks": when each of the checks 2 to 10 fails, and the task it names. Definitions only.
--- `Fails c s a`: check c fails on the file s and names the task a; a check over tasks speaks of the list of bodies.
+-- Document 01, "Numbers of the checks": the faults of the checks on files and their parts, each in the document's words. Definitions only.
 use mathlib.Core.Path.{_≡_}
 use mathlib.Core.Logic.{_≢_, _⊎_}
 use mathlib.Core.List.{List, []}
@@ -33,23 +32,27 @@ CountFault t = (t < 1) ⊎ (8 < t)
 abbrev pub Fault6 : List ℕ → Type 0
 Fault6 s = CountFault (taskCount s) ⊎ (getD s 7 0 ≢ 0)
 
--- "The first body stands at 8 + 4t, each next where the last one ended, and the last ends the file."; check 7 is "contents not as above"
+-- "The first body stands at 8 + 4t, each next where the last one ended, and the last ends the file."
 pub record Contents (s : List ℕ) : Type 0 where
   pub first : offsetOf s 0 ≡ 8 + 4 * taskCount s
   pub next : (j : ℕ) → suc j < taskCount s → offsetOf s (suc j) ≡ offsetOf s j + sizeOf s j
   pub last : (j : ℕ) → suc j ≡ taskCount s → offsetOf s j + sizeOf s j ≡ length s
+
+-- "contents not as above"
+abbrev pub Fault7 : List ℕ → Type 0
+Fault7 s = Contents s → ⊥
 
 -- the body numbered j
 abbrev pub body : List (List ℕ) → ℕ → List ℕ
 body bs j = getD bs j []
 
 -- "a body breaks its layout"
-abbrev pub Fault8 : List (List ℕ) → ℕ → Type 0
-Fault8 bs j = (j < length bs) × (Layout (body bs j) → ⊥)
+abbrev pub Fault8 : List ℕ → Type 0
+Fault8 s = Layout s → ⊥
 
 -- "a block on no complete path", in the task of a body that keeps its layout
-abbrev pub Fault9 : List (List ℕ) → ℕ → Type 0
-Fault9 bs j = (j < length bs) × (t : Task) × (body bs j ≡ bodyBytes t) × InBounds t × (b : ℕ) × (b < length t) × (OnCompletePath t b → ⊥)
+abbrev pub Fault9 : List ℕ → Type 0
+Fault9 s = (t : Task) × (s ≡ bodyBytes t) × InBounds t × (b : ℕ) × (b < length t) × (OnCompletePath t b → ⊥)
 
 -- "two tasks share a memory block": task j with an earlier one
 abbrev pub Fault10 : List (List ℕ) → ℕ → Type 0

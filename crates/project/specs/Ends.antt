@@ -1,5 +1,5 @@
 -- Where bodies end in a list of bytes: the layout of what the checks over tasks are handed. Definitions only.
-use mathlib.Core.Bool.{Bool, true, false}
+use mathlib.Core.Bool.{cond}
 use mathlib.Core.List.{List, [], _∷_, _++_}
 use Prim.Native.Nat.{ℕ, zero, suc, _+_, _*_, _-_, _≤_, _<_}
 use lib.ListN.{length, getD, take, drop, replicate}
@@ -21,12 +21,8 @@ between s ends zero j = []
 between s ends (suc left) j = take (getD ends (suc j) 0 - getD ends j 0) (drop (getD ends j 0) s) ∷ between s ends left (suc j)
 
 -- the ends of the bodies of a file of t tasks, if its contents are as they should be; else zeros
-abbrev pub pickEnds : Bool → List ℕ → List ℕ
-pickEnds true l = l
-pickEnds false l = replicate 9 0
-
 abbrev pub endsOf : List ℕ → ℕ → List ℕ
-endsOf s t = pickEnds (contentsFit s t 0 (8 + 4 * t)) (nine (endsFrom s t 0 (8 + 4 * t)))
+endsOf s t = cond (contentsFit s t 0 (8 + 4 * t)) (nine (endsFrom s t 0 (8 + 4 * t))) (replicate 9 0)
 
 -- at most eight bodies, each of which ends where or after it begins, within the bytes
 pub record InOrder (s ends : List ℕ) (count : ℕ) : Type 0 where

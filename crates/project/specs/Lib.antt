@@ -1,5 +1,6 @@
 pub mod File
 pub mod Checks
+pub mod Checklist
 pub mod Verdict
 pub mod Reading
 pub mod Bodies

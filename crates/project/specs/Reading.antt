@@ -1,6 +1,6 @@
--- The verdict on a file, computed; proofs/Verdicts shows that it is the one of `Verdict`.
-use mathlib.Core.Bool.{Bool, true, false, not, _&&_, _||_, cond}
-use mathlib.Core.List.{List, [], _∷_, _++_}
+-- Reader: the tests of its checks, the list of them, and its answer. Definitions only; proofs/Verdicts shows that each test is its fault.
+use mathlib.Core.Bool.{Bool, false, not, _&&_, _||_}
+use mathlib.Core.List.{List, [], _∷_, _++_, map}
 use Prim.Native.Nat.{ℕ, zero, suc, _+_, _*_}
 use lib.Dec.{eqb, ltb}
 use lib.ListN.{length, getD, take}
@@ -15,22 +15,9 @@ use Rattle.project.specs.declared.answers.Check.the-variants.{Passed}
 use Rattle.project.specs.declared.answers.Check.the-variants.{Refused as Failed}
 use Rattle.project.specs.declared.answers.Reading.{Reading}
 use Rattle.project.specs.declared.answers.Reading.the-variants.{Accepted, Refused}
+use Rattle.project.specs.Checks.{Fault2, Fault3, Fault4, Fault5, Fault6, Fault7, Fault8, Fault9, Fault10}
+use Rattle.project.specs.Checklist.{Entry, one, each, noTask, Of, verdictOf}
 use Rattle.project.specs.File.{mark, edition, cacheBlocks, taskCount, offsetOf, sizeOf, bodies}
-
--- one check, and then the others
-abbrev pub andThen : Check → Check → Check
-andThen Passed next = next
-andThen (Failed c a) next = Failed c a
-
--- check c, which names 255
-abbrev pub unless : ℕ → Bool → Check
-unless c true = Failed c 255
-unless c false = Passed
-
--- check c, which names the lowest task at fault, from task j on
-abbrev pub lowest : ℕ → (List ℕ → Bool) → ℕ → List (List ℕ) → Check
-lowest c test j [] = Passed
-lowest c test j (b ∷ bs) = cond (test b) (Failed c j) (lowest c test (suc j) bs)
 
 -- ---- the tests of checks 2 to 7
 
@@ -46,8 +33,11 @@ test4 s = not (eqb (edition s) 1)
 abbrev pub test5 : ℕ → Bool
 test5 n = ltb n 1 || ltb 16 n
 
-abbrev pub test6 : ℕ → Bool
-test6 t = ltb t 1 || ltb 8 t
+abbrev pub countTest : ℕ → Bool
+countTest t = ltb t 1 || ltb 8 t
+
+abbrev pub test6 : List ℕ → Bool
+test6 s = countTest (taskCount s) || not (eqb (getD s 7 0) 0)
 
 -- each body of the contents from task j on stands where the last one ended, at first `at`, and the last ends the file
 abbrev pub contentsFit : List ℕ → ℕ → ℕ → ℕ → Bool
@@ -56,11 +46,6 @@ contentsFit s (suc left) j at = eqb (offsetOf s j) at && contentsFit s left (suc
 
 abbrev pub test7 : List ℕ → Bool
 test7 s = not (contentsFit s (taskCount s) 0 (8 + 4 * taskCount s))
-
-abbrev pub headCheck : List ℕ → Check
-headCheck s =
-    andThen (unless 2 (test2 s)) (andThen (unless 3 (test3 s)) (andThen (unless 4 (test4 s))
-    (andThen (unless 5 (test5 (cacheBlocks s))) (unless 6 (test6 (taskCount s) || not (eqb (getD s 7 0) 0))))))
 
 -- ---- the tests of checks 8 to 10, over bodies
 
@@ -75,19 +60,49 @@ abbrev pub meets : List ℕ → List ℕ → Bool
 meets [] seen = false
 meets (m ∷ ms) seen = mem eqb m seen || meets ms seen
 
--- check 10 from task j on, where `seen` are the memory blocks of the earlier tasks
-abbrev pub sharing : List ℕ → ℕ → List (List ℕ) → Check
-sharing seen j [] = Passed
-sharing seen j (b ∷ bs) =
-    cond (meets (memoryBlocks (taskOf (decode b))) seen) (Failed 10 j) (sharing (seen ++ memoryBlocks (taskOf (decode b))) (suc j) bs)
+-- the test of check 10 of each task, where `seen` are the memory blocks of the earlier tasks
+abbrev pub sharings : List ℕ → List (List ℕ) → List Bool
+sharings seen [] = []
+sharings seen (b ∷ bs) = meets (memoryBlocks (taskOf (decode b))) seen ∷ sharings (seen ++ memoryBlocks (taskOf (decode b))) bs
+
+-- ---- the checks, in their order
+
+-- on the first eight bytes
+abbrev pub headChecks : List ℕ → List Entry
+headChecks s =
+    one 2 noTask (test2 s) (Fault2 s)
+    ∷ one 3 noTask (test3 s) (Fault3 s)
+    ∷ one 4 noTask (test4 s) (Fault4 s)
+    ∷ one 5 noTask (test5 (cacheBlocks s)) (Fault5 (cacheBlocks s))
+    ∷ one 6 noTask (test6 s) (Fault6 s)
+    ∷ []
+
+-- on bodies
+abbrev pub taskChecks : List (List ℕ) → List Entry
+taskChecks bs =
+    each 8 (map test8 bs) (Of Fault8 [] bs)
+    ∷ each 9 (map test9 bs) (Of Fault9 [] bs)
+    ∷ each 10 (sharings [] bs) (Fault10 bs)
+    ∷ []
+
+-- on the contents and the bodies they tell of
+abbrev pub contentsChecks : List ℕ → List Entry
+contentsChecks s = one 7 noTask (test7 s) (Fault7 s) ∷ taskChecks (bodies s)
+
+-- "Reader checks 2 to 10."
+abbrev pub fileChecks : List ℕ → List Entry
+fileChecks s = headChecks s ++ contentsChecks s
+
+abbrev pub headCheck : List ℕ → Check
+headCheck s = verdictOf (headChecks s)
 
 abbrev pub tasksCheck : List (List ℕ) → Check
-tasksCheck bs = andThen (lowest 8 test8 0 bs) (andThen (lowest 9 test9 0 bs) (sharing [] 0 bs))
-
--- ---- the verdict
+tasksCheck bs = verdictOf (taskChecks bs)
 
 abbrev pub fileCheck : List ℕ → Check
-fileCheck s = andThen (headCheck s) (andThen (unless 7 (test7 s)) (tasksCheck (bodies s)))
+fileCheck s = verdictOf (fileChecks s)
+
+-- ---- the answer
 
 abbrev pub pickReading : Check → ℕ → ℕ → Reading
 pickReading Passed n t = Accepted n t

@@ -1,7 +1,8 @@
 -- Document 01, "Calls" and "Numbers of the checks": Writer. Definitions only.
+use mathlib.Core.Logic.{_≢_}
 use mathlib.Core.Bool.{not}
 use mathlib.Core.List.{List, [], _∷_, _++_}
-use Prim.Native.Nat.{ℕ, _+_, _*_}
+use Prim.Native.Nat.{ℕ, _+_, _*_, _<_}
 use lib.Dec.{eqb, ltb}
 use lib.ListN.{length, take, drop}
 use Rattle.project.specs.declared.answers.Check.{Check}
@@ -10,7 +11,9 @@ use Rattle.project.specs.declared.answers.Check.the-variants.{Refused as
 use Rattle.project.specs.declared.answers.Writing.{Writing}
 use Rattle.project.specs.declared.answers.Writing.the-variants.{Written, Refused}
 use Rattle.project.specs.File.{fileOf}
-use Rattle.project.specs.Reading.{andThen, unless, test5, test6, tasksCheck}
+use Rattle.project.specs.Checks.{Fault5, CountFault}
+use Rattle.project.specs.Checklist.{Entry, one, noTask, verdictOf}
+use Rattle.project.specs.Reading.{test5, countTest, taskChecks}
 
 -- the sum of the lengths
 abbrev pub total : List ℕ → ℕ
@@ -26,11 +29,24 @@ cut s (l ∷ ls) = take l s ∷ cut (drop l s) ls
 abbrev pub fileLength : List ℕ → List ℕ → ℕ
 fileLength s ls = 8 + 4 * length ls + length s
 
+-- "their sum isn't the joined length"
+abbrev pub SumFault : List ℕ → List ℕ → Type 0
+SumFault s ls = total ls ≢ length s
+
+-- "out list shorter than the file"
+abbrev pub Fault14 : ℕ → List ℕ → List ℕ → List ℕ → Type 0
+Fault14 n s ls out = length out < length (fileOf n (cut s ls))
+
 -- "Writer checks 5, 6 (number of lengths), 7 (their sum isn't the joined length), 8, 9, 10, 14."
+abbrev pub writerChecks : ℕ → List ℕ → List ℕ → List ℕ → List Entry
+writerChecks n s ls out =
+    one 5 noTask (test5 n) (Fault5 n)
+    ∷ one 6 noTask (countTest (length ls)) (CountFault (length ls))
+    ∷ one 7 noTask (not (eqb (total ls) (length s))) (SumFault s ls)
+    ∷ (taskChecks (cut s ls) ++ (one 14 noTask (ltb (length out) (fileLength s ls)) (Fault14 n s ls out) ∷ []))
+
 abbrev pub writerCheck : ℕ → List ℕ → List ℕ → List ℕ → Check
-writerCheck n s ls out =
-    andThen (unless 5 (test5 n)) (andThen (unless 6 (test6 (length ls))) (andThen (unless 7 (not (eqb (total ls) (length s))))
-    (andThen (tasksCheck (cut s ls)) (unless 14 (ltb (length out) (fileLength s ls))))))
+writerCheck n s ls out = verdictOf (writerChecks n s ls out)
 
 abbrev pub pickWriting : Check → ℕ → Writing
 pickWriting Passed l = Written l

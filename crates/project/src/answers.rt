@@ -1,3 +1,8 @@
+ghost use mathlib.Core.Path.{_≡_};
+
+// The task that a check names which is about no task.
+pub const NO_TASK: u8 = 255;
+
 // What some checks say: all passed, or the check that fails first and the task it names.
 pub enum Check {
     Passed,
@@ -20,4 +25,14 @@ pub enum Writing {
 pub enum Filling {
     Filled,
     Refused { check: u8, task: u8 },
+}
+
+// A check that fails and names no task.
+pub fn refused(check: u8) -> Check
+    ensures { λ r. ⌜ r ≡ Check.Refused check 255 ⌝ }
+{
+    Check::Refused {
+        check,
+        task: NO_TASK,
+    }
 }

@@ -6,6 +6,7 @@ ghost use Rattle.model.specs.Computed.{sameList};
 ghost use Rattle.project.specs.File.{mark};
 ghost use Rattle.project.specs.Reading.{headCheck};
 use crate::answers::Check;
+use crate::answers::refused;
 
 // The four bytes that a file begins with.
 pub const MARK: [u8; 4] = *b"CRPD";
@@ -16,13 +17,6 @@ fn marked(file: &[u8]) -> bool
     ensures { λ r. ⌜ r ≡ sameList (take 4 (now (file .entry))) mark ⌝ }
 {
     check::same(&file[0..4], &MARK)
-}
-
-// A check that fails and names no task.
-fn refused(check: u8) -> Check
-    ensures { λ r. ⌜ r ≡ Check.Refused check 255 ⌝ }
-{
-    Check::Refused { check, task: 255 }
 }
 
 // The first of the checks 2 to 6 that fails.

@@ -1,7 +1,7 @@
 -- Reading a file in the code's words: what each way out answers is the reading of the definitions.
 -- The idea: a check that passed leaves the next one, and fitting contents cut the file into its bodies.
-use mathlib.Core.Path.{_≡_, refl, sym, _∙_}
-use mathlib.Core.Bool.{Bool, true, false, not, _||_}
+use mathlib.Core.Path.{_≡_, refl, sym, ap, _∙_}
+use mathlib.Core.Bool.{Bool, true, false, not}
 use mathlib.Core.List.{List}
 use Prim.Native.Nat.{ℕ, suc, _+_, _*_, _-_, _≤_, _<_}
 use native.Mathlib.Omega.{arith}
@@ -14,11 +14,12 @@ use Rattle.project.specs.declared.answers.Check.the-variants.{Refused as Failed
 use Rattle.project.specs.declared.answers.Reading.{Reading}
 use Rattle.project.specs.declared.answers.Reading.the-variants.{Accepted, Refused}
 use Rattle.project.specs.File.{cacheBlocks, taskCount, offsetOf, sizeOf, bodies}
-use Rattle.project.specs.Reading.{test2, test3, test4, test5, test6, contentsFit, headCheck, tasksCheck, readingOf}
+use Rattle.project.specs.Checklist.{noTask, andThen, unless}
+use Rattle.project.specs.Reading.{test2, test3, test4, test5, countTest, test6, contentsFit, test7, headCheck, tasksCheck, pickReading, readingOf}
 use Rattle.project.specs.Bodies.{hasBody, placeStart, placeLength, bodyPart}
 use Rattle.project.specs.Ends.{endsFrom, nine, between, endsOf, InOrder}
 use Rattle.project.proofs.ContentsLaws.{fit-within, end-next, end-offset, end-rises, end-inside, between-bodies}
-use Rattle.project.proofs.Accepted.{Passing, passing, accepted-passed, unless-passed, alone-passed, or-false-left, or-false-right}
+use Rattle.project.proofs.Accepted.{file-parts, passing, accepted-passed, unless-passed, or-false-left, or-false-right}
 
 -- ---- a head that passes
 
@@ -29,12 +30,12 @@ pub record HeadPassed (s : List ℕ) : Type 0 where
 
 pub head-passed : (s : List ℕ) → headCheck s ≡ Passed → HeadPassed s
 head-passed s h =
-    let (e2, h3) = unless-passed 2 (test2 s) _ h in
-    let (e3, h4) = unless-passed 3 (test3 s) _ h3 in
-    let (e4, h5) = unless-passed 4 (test4 s) _ h4 in
-    let (e5, h6) = unless-passed 5 (test5 (cacheBlocks s)) _ h5 in
-    let e6 = alone-passed 6 (test6 (taskCount s) || not (eqb (getD s 7 0) 0)) h6 in
-    let et = or-false-left (test6 (taskCount s)) (not (eqb (getD s 7 0) 0)) e6 in
+    let (e2, h3) = unless-passed 2 noTask (test2 s) _ h in
+    let (e3, h4) = unless-passed 3 noTask (test3 s) _ h3 in
+    let (e4, h5) = unless-passed 4 noTask (test4 s) _ h4 in
+    let (e5, h6) = unless-passed 5 noTask (test5 (cacheBlocks s)) _ h5 in
+    let e6 = unless-passed 6 noTask (test6 s) Passed h6 .0 in
+    let et = or-false-left (countTest (taskCount s)) (not (eqb (getD s 7 0) 0)) e6 in
     record {
       long = ltb-false (length s) 8 (or-false-left (ltb (length s) 8) (ltb 7544 (length s)) e2);
       some = ltb-false (taskCount s) 1 (or-false-left (ltb (taskCount s) 1) (ltb 8 (taskCount s)) et);
@@ -49,19 +50,23 @@ fits-by s e f a = sym (rw e at f) ∙ a
 -- ---- the ways out
 
 module _ (s : List ℕ) where
+  -- the reading by the parts of the checks
+  by-parts : (r : Check) → andThen (headCheck s) (andThen (unless 7 noTask (test7 s)) (tasksCheck (bodies s))) ≡ r → readingOf s ≡ pickReading r (cacheBlocks s) (taskCount s)
+  by-parts r e = ap (λ (r : Check). pickReading r (cacheBlocks s) (taskCount s)) (file-parts s ∙ e)
+
   pub read-head : {c a : ℕ} → headCheck s ≡ Failed c a → Refused c a ≡ readingOf s
-  read-head e = rw e
+  read-head {c} {a} e = sym (by-parts (Failed c a) (rw e))
 
   module _ (passed : headCheck s ≡ Passed) where
     pub read-contents : contentsFit s (taskCount s) 0 (8 + 4 * taskCount s) ≡ false → Refused 7 255 ≡ readingOf s
-    read-contents e = rw (passed, e)
+    read-contents e = sym (by-parts (Failed 7 255) (rw (passed, e)))
 
     module _ (fit : contentsFit s (taskCount s) 0 (8 + 4 * taskCount s) ≡ true) where
       pub read-tasks : {c a : ℕ} → tasksCheck (bodies s) ≡ Failed c a → Refused c a ≡ readingOf s
-      read-tasks e = rw (passed, fit, e)
+      read-tasks {c} {a} e = sym (by-parts (Failed c a) (rw (passed, fit, e)))
 
       pub read-accepted : tasksCheck (bodies s) ≡ Passed → Accepted (cacheBlocks s) (taskCount s) ≡ readingOf s
-      read-accepted e = rw (passed, fit, e)
+      read-accepted e = sym (by-parts Passed (rw (passed, fit, e)))
 
       -- the ends that were found, with the count of the tasks as the code has it
       module _ (count : ℕ) (same : count ≡ taskCount s) (ends : List ℕ) (found : ends ≡ endsOf s count) where

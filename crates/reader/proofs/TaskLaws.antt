@@ -2,13 +2,13 @@
 -- The idea: what is left of the bodies, or of the blocks, gives what the whole gives from the start.
 use mathlib.Core.Path.{_≡_, refl, sym, ap, _∙_}
 use mathlib.Core.Bool.{Bool, true, false, true≢false}
-use mathlib.Core.List.{List, [], _∷_, _++_, append-assoc, append-nil}
+use mathlib.Core.List.{List, [], _∷_, _++_, map, append-assoc, append-nil}
 use Prim.Native.Nat.{ℕ, suc, _+_, _-_, _≤_, _<_}
 use native.Mathlib.Numerals.{add-one}
 use native.Mathlib.Omega.{arith}
 use lib.ListN.{length, getD, take, drop, drop-of-length-le}
 use lib.Seq.{drop-cons}
-use Rattle.model.specs.Tasks.{Block, Task, noBlock, block, memoryBlocks}
+use Rattle.model.specs.Tasks.{Task, noBlock, block, memoryBlocks}
 use Rattle.body.specs.Decode.{Decoded, broken, decoded, decode, taskOf}
 use Rattle.body.specs.Walk.{keptOf, blocksOf, startsOf}
 use Rattle.body.proofs.WalksParts.{BlockParts, walked-parts}
@@ -16,20 +16,22 @@ use Rattle.body.proofs.Decoded.{decoded-bounds}
 use Rattle.project.specs.declared.answers.Check.{Check}
 use Rattle.project.specs.declared.answers.Check.the-variants.{Passed}
 use Rattle.project.specs.declared.answers.Check.the-variants.{Refused as Failed}
-use Rattle.project.specs.Reading.{lowest, test8, test9, meets, sharing, tasksCheck}
+use Rattle.project.specs.Checklist.{lowest}
+use Rattle.project.specs.Reading.{test8, test9, meets, sharings, tasksCheck}
 use Rattle.project.specs.Ends.{between, InOrder}
+use Rattle.project.proofs.Checklists.{then-none}
 use Rattle.project.proofs.SharingLaws.{meets-append}
 
 -- ---- one check after the other
 
 module _ (bs : List (List ℕ)) where
-  pub tasks-shared : lowest 8 test8 0 bs ≡ Passed → lowest 9 test9 0 bs ≡ Passed → sharing [] 0 bs ≡ tasksCheck bs
-  tasks-shared p q = rw (p, q)
+  pub tasks-shared : {r : Check} → lowest 8 0 (map test8 bs) ≡ Passed → lowest 9 0 (map test9 bs) ≡ Passed → r ≡ lowest 10 0 (sharings [] bs) → r ≡ tasksCheck bs
+  tasks-shared p q e = e ∙ sym (rw (p, q) (then-none (lowest 10 0 (sharings [] bs))))
 
-  pub tasks-off : {c a : ℕ} → lowest 8 test8 0 bs ≡ Passed → lowest 9 test9 0 bs ≡ Failed c a → Failed c a ≡ tasksCheck bs
+  pub tasks-off : {c a : ℕ} → lowest 8 0 (map test8 bs) ≡ Passed → lowest 9 0 (map test9 bs) ≡ Failed c a → Failed c a ≡ tasksCheck bs
   tasks-off p q = rw (p, q)
 
-  pub tasks-broken : {c a : ℕ} → lowest 8 test8 0 bs ≡ Failed c a → Failed c a ≡ tasksCheck bs
+  pub tasks-broken : {c a : ℕ} → lowest 8 0 (map test8 bs) ≡ Failed c a → Failed c a ≡ tasksCheck bs
   tasks-broken q = rw q
 
 -- ---- over bodies
@@ -42,18 +44,20 @@ module _ (s ends : List ℕ) (count j : ℕ) (inside : j < count) where
   between-step = let e : count - j ≡ suc (count - (j + 1)) = omega arith in rw (e, add-one j)
 
   pub lowest-pass : (c : ℕ) (test : List ℕ → Bool) → test (partAt s ends j) ≡ false
-      → lowest c test (j + 1) (between s ends (count - (j + 1)) (j + 1)) ≡ lowest c test j (between s ends (count - j) j)
-  lowest-pass c test h = sym (ap (lowest c test j) between-step ∙ rw (h, add-one j))
+      → lowest c (j + 1) (map test (between s ends (count - (j + 1)) (j + 1))) ≡ lowest c j (map test (between s ends (count - j) j))
+  lowest-pass c test h = sym (ap (λ l. lowest c j (map test l)) between-step ∙ rw (h, add-one j))
 
-  pub lowest-fail : (c : ℕ) (test : List ℕ → Bool) → test (partAt s ends j) ≡ true → Failed c j ≡ lowest c test j (between s ends (count - j) j)
-  lowest-fail c test h = sym (ap (lowest c test j) between-step ∙ rw h)
+  pub lowest-fail : (c : ℕ) (test : List ℕ → Bool) → test (partAt s ends j) ≡ true → Failed c j ≡ lowest c j (map test (between s ends (count - j) j))
+  lowest-fail c test h = sym (ap (λ l. lowest c j (map test l)) between-step ∙ rw h)
 
   pub sharing-pass : (seen : List ℕ) → meets (memoryBlocks (taskOf (decode (partAt s ends j)))) seen ≡ false
-      → sharing (seen ++ memoryBlocks (taskOf (decode (partAt s ends j)))) (j + 1) (between s ends (count - (j + 1)) (j + 1)) ≡ sharing seen j (between s ends (count - j) j)
-  sharing-pass seen h = sym (ap (sharing seen j) between-step ∙ rw (h, add-one j))
+      → lowest 10 (j + 1) (sharings (seen ++ memoryBlocks (taskOf (decode (partAt s ends j)))) (between s ends (count - (j + 1)) (j + 1)))
+      ≡ lowest 10 j (sharings seen (between s ends (count - j) j))
+  sharing-pass seen h = sym (ap (λ l. lowest 10 j (sharings seen l)) between-step ∙ rw (h, add-one j))
 
-  pub sharing-fail : (seen : List ℕ) → meets (memoryBlocks (taskOf (decode (partAt s ends j)))) seen ≡ true → Failed 10 j ≡ sharing seen j (between s ends (count - j) j)
-  sharing-fail seen h = sym (ap (sharing seen j) between-step ∙ rw h)
+  pub sharing-fail : (seen : List ℕ) → meets (memoryBlocks (taskOf (decode (partAt s ends j)))) seen ≡ true
+      → Failed 10 j ≡ lowest 10 j (sharings seen (between s ends (count - j) j))
+  sharing-fail seen h = sym (ap (λ l. lowest 10 j (sharings seen l)) between-step ∙ rw h)
 
 -- the ends of a body, by the code's numbers
 pub order-rise : (s ends : List ℕ) (count : ℕ) → InOrder s ends count → (j : ℕ) → j < count → getD ends j 0 ≤ getD ends (j + 1) 0
@@ -62,16 +66,17 @@ order-rise s ends count h j l = rw (add-one j) (h .rise j l)
 pub order-within : (s ends : List ℕ) (count : ℕ) → InOrder s ends count → (j : ℕ) → j < count → getD ends (j + 1) 0 ≤ length s
 order-within s ends count h j l = rw (add-one j) (h .within j l)
 
-pub lowest-start : (c : ℕ) (test : List ℕ → Bool) (s ends : List ℕ) (count : ℕ) → lowest c test 0 (between s ends (count - 0) 0) ≡ lowest c test 0 (between s ends count 0)
+pub lowest-start : (c : ℕ) (test : List ℕ → Bool) (s ends : List ℕ) (count : ℕ)
+    → lowest c 0 (map test (between s ends (count - 0) 0)) ≡ lowest c 0 (map test (between s ends count 0))
 lowest-start c test s ends count = let e : count - 0 ≡ count = omega arith in rw e
 
-pub lowest-end : (c : ℕ) (test : List ℕ → Bool) (s ends : List ℕ) (count j : ℕ) → count ≤ j → Passed ≡ lowest c test j (between s ends (count - j) j)
+pub lowest-end : (c : ℕ) (test : List ℕ → Bool) (s ends : List ℕ) (count j : ℕ) → count ≤ j → Passed ≡ lowest c j (map test (between s ends (count - j) j))
 lowest-end c test s ends count j h = let e : count - j ≡ 0 = omega arith in rw e
 
-pub sharing-start : (s ends : List ℕ) (count : ℕ) → sharing [] 0 (between s ends (count - 0) 0) ≡ sharing [] 0 (between s ends count 0)
+pub sharing-start : (s ends : List ℕ) (count : ℕ) → lowest 10 0 (sharings [] (between s ends (count - 0) 0)) ≡ lowest 10 0 (sharings [] (between s ends count 0))
 sharing-start s ends count = let e : count - 0 ≡ count = omega arith in rw e
 
-pub sharing-end : (seen s ends : List ℕ) (count j : ℕ) → count ≤ j → Passed ≡ sharing seen j (between s ends (count - j) j)
+pub sharing-end : (seen s ends : List ℕ) (count j : ℕ) → count ≤ j → Passed ≡ lowest 10 j (sharings seen (between s ends (count - j) j))
 sharing-end seen s ends count j h = let e : count - j ≡ 0 = omega arith in rw e
 
 -- ---- one body

@@ -5,12 +5,13 @@ ghost use mathlib.Core.Path.{_≡_};
 ghost use mathlib.Core.Bool.{true};
 ghost use Prim.Native.Nat.{_+_, _≤_, _<_};
 ghost use lib.ListN.{length};
-ghost use Rattle.project.specs.File.{taskCount, offsetOf, sizeOf};
+ghost use Rattle.project.specs.File.{taskCount, offsetOf, sizeOf, bodyOf};
 ghost use Rattle.project.specs.Reading.{readingOf};
 ghost use Rattle.project.specs.Bodies.{accepted, placeStart, placeLength, bodyPart};
 use body::block::count;
 use cache::references::number_at;
 use project::answers::Check;
+use project::answers::NO_TASK;
 use project::answers::Reading;
 use project::contents::contents;
 use project::head::head;
@@ -35,7 +36,7 @@ pub fn read(file: &[u8]) -> Reading
             } else {
                 Reading::Refused {
                     check: 7,
-                    task: 255,
+                    task: NO_TASK,
                 }
             }
         }
@@ -47,6 +48,12 @@ pub struct BodyPlace {
     pub start: usize,
     pub length: usize,
 }
+
+// The empty part at the file's start, which stands for a body that is not there.
+const NOWHERE: BodyPlace = BodyPlace {
+    start: 0,
+    length: 0,
+};
 
 // A two-byte number as a count.
 fn wide_count(x: u16) -> usize
@@ -68,31 +75,38 @@ pub fn entry(file: &[u8], task: usize) -> BodyPlace
     }
 }
 
-// Where the body of a task stands; an empty part at 0 if the file isn't accepted or the task isn't below t.
+// The body of a task of an accepted file as that part of the file, at its place there.
+pub fn task_body(file: &[u8], task: usize) -> &[u8]
+    requires { ⌜ (accepted (readingOf (now file)) ≡ true) × (task < taskCount (now file)) ⌝ }
+    ensures { λ r. ⌜ (now r ≡ bodyOf (now (file .entry)) task)
+        × (r .ptr .0 ≡ file .entry .ptr .0) × (r .ptr .1 ≡ file .entry .ptr .1 + offsetOf (now (file .entry)) task) ⌝ }
+{
+    let found = entry(file, task);
+    let from = found.start;
+    let to = from + found.length;
+    &file[from..to]
+}
+
+// Where the body of a task stands; an empty part at the file's start if the file isn't accepted or the task isn't below t.
 pub fn place(file: &[u8], task: usize) -> BodyPlace
     ensures { λ r. ⌜ (r .start ≡ placeStart (now (file .entry)) task) × (r .length ≡ placeLength (now (file .entry)) task) ⌝ }
 {
     match read(file) {
-        Reading::Refused { check: _, task: _ } => BodyPlace {
-            start: 0,
-            length: 0,
-        },
+        Reading::Refused { check: _, task: _ } => NOWHERE,
         Reading::Accepted { n: _, t } => {
             if task < count(t) {
                 entry(file, task)
             } else {
-                BodyPlace {
-                    start: 0,
-                    length: 0,
-                }
+                NOWHERE
             }
         }
     }
 }
 
-// Body: the body of a task, as that part of the file.
+// Body: the body of a task as that part of the file, at its place there; an empty part at the file's start if the file isn't accepted or the task isn't below t.
 pub fn body(file: &[u8], task: usize) -> &[u8]
-    ensures { λ r. ⌜ now r ≡ bodyPart (now (file .entry)) task ⌝ }
+    ensures { λ r. ⌜ (now r ≡ bodyPart (now (file .entry)) task)
+        × (r .ptr .0 ≡ file .entry .ptr .0) × (r .ptr .1 ≡ file .entry .ptr .1 + placeStart (now (file .entry)) task) ⌝ }
 {
     let found = place(file, task);
     let from = found.start;

@@ -1,12 +1,14 @@
 // Checks 8 to 10 over bodies that stand one after the other in a list of bytes.
 ghost use mathlib.Core.Path.{_≡_};
-ghost use mathlib.Core.List.{List, [], _++_};
+ghost use mathlib.Core.List.{List, [], _++_, map};
 ghost use Prim.Native.Nat.{ℕ, _<_};
 ghost use Rattle.model.specs.Tasks.{memoryBlocks};
 ghost use Rattle.body.specs.Decode.{decode, taskOf};
-ghost use Rattle.project.specs.Reading.{lowest, test8, test9, meets, sharing, tasksCheck};
+ghost use Rattle.project.specs.Checklist.{lowest};
+ghost use Rattle.project.specs.Reading.{test8, test9, meets, sharings, tasksCheck};
 ghost use Rattle.project.specs.Ends.{InOrder, between};
 ghost use Rattle.seen.specs.Seen.{seenTable};
+ghost use Rattle.reader.specs.Tests.{testOf};
 use body::jumps::on_paths;
 use body::references;
 use body::walk;
@@ -33,7 +35,7 @@ fn off_path(body: &[u8]) -> bool
     }
 }
 
-// Whether some memory block of a body is marked.
+// Whether some memory block of a body is in the list whose table this is.
 fn body_meets(table: &[u64; 1024], body: &[u8]) -> bool
     ensures { λ r. ⌜ ((ms : List ℕ) → now (table .entry) ≡ seenTable ms → r ≡ meets (memoryBlocks (taskOf (decode (now (body .entry))))) ms) ⌝ }
 {
@@ -48,7 +50,7 @@ fn body_meets(table: &[u64; 1024], body: &[u8]) -> bool
     false
 }
 
-// The memory blocks of a body are marked.
+// The memory blocks of a body are added to the list whose table this is.
 fn mark_body(table: &mut [u64; 1024], body: &[u8])
     ensures { λ _. ⌜ ((ms : List ℕ) → now (table .entry) ≡ seenTable ms
         → now (table .exit) ≡ seenTable (ms ++ memoryBlocks (taskOf (decode (now (body .entry)))))) ⌝ }
@@ -69,35 +71,27 @@ pub fn task_byte(j: usize) -> u8
     j as u8
 }
 
-// Check 8: the lowest task whose body breaks its layout.
-fn first_broken(bytes: &[u8], count: usize, ends: [usize; 9]) -> Check
-    requires { ⌜ InOrder (now bytes) ends count ⌝ }
-    ensures { λ r. ⌜ r ≡ lowest 8 test8 0 (between (now (bytes .entry)) ends count 0) ⌝ }
+// Check 8 or 9 of one body.
+fn at_fault(check: u8, body: &[u8]) -> bool
+    ensures { λ r. ⌜ r ≡ testOf check (now (body .entry)) ⌝ }
 {
-    for j in 0..count {
-        let from = ends[j];
-        let to = ends[j + 1];
-        if breaks_layout(&bytes[from..to]) {
-            return Check::Refused {
-                check: 8,
-                task: task_byte(j),
-            };
-        }
+    if check == 8 {
+        return breaks_layout(body);
     }
-    Check::Passed
+    off_path(body)
 }
 
-// Check 9: the lowest task with a block on no complete path.
-fn first_off_path(bytes: &[u8], count: usize, ends: [usize; 9]) -> Check
+// Check 8 or 9: the lowest task whose body breaks its layout, or with a block on no complete path.
+fn first_at_fault(check: u8, bytes: &[u8], count: usize, ends: [usize; 9]) -> Check
     requires { ⌜ InOrder (now bytes) ends count ⌝ }
-    ensures { λ r. ⌜ r ≡ lowest 9 test9 0 (between (now (bytes .entry)) ends count 0) ⌝ }
+    ensures { λ r. ⌜ r ≡ lowest check 0 (map (testOf check) (between (now (bytes .entry)) ends count 0)) ⌝ }
 {
     for j in 0..count {
         let from = ends[j];
         let to = ends[j + 1];
-        if off_path(&bytes[from..to]) {
+        if at_fault(check, &bytes[from..to]) {
             return Check::Refused {
-                check: 9,
+                check,
                 task: task_byte(j),
             };
         }
@@ -108,7 +102,7 @@ fn first_off_path(bytes: &[u8], count: usize, ends: [usize; 9]) -> Check
 // Check 10: the lowest task that shares a memory block with an earlier one.
 fn first_sharing(bytes: &[u8], count: usize, ends: [usize; 9]) -> Check
     requires { ⌜ InOrder (now bytes) ends count ⌝ }
-    ensures { λ r. ⌜ r ≡ sharing [] 0 (between (now (bytes .entry)) ends count 0) ⌝ }
+    ensures { λ r. ⌜ r ≡ lowest 10 0 (sharings [] (between (now (bytes .entry)) ends count 0)) ⌝ }
 {
     let mut table = [0u64; 1024];
     for j in 0..count {
@@ -130,9 +124,9 @@ pub fn check_tasks(bytes: &[u8], count: usize, ends: [usize; 9]) -> Check
     requires { ⌜ InOrder (now bytes) ends count ⌝ }
     ensures { λ r. ⌜ r ≡ tasksCheck (between (now (bytes .entry)) ends count 0) ⌝ }
 {
-    let broken = first_broken(bytes, count, ends);
+    let broken = first_at_fault(8, bytes, count, ends);
     if let Check::Passed = broken {
-        let off = first_off_path(bytes, count, ends);
+        let off = first_at_fault(9, bytes, count, ends);
         if let Check::Passed = off {
             return first_sharing(bytes, count, ends);
         }

@@ -21,7 +21,7 @@ use Rattle.body.proofs.BlockParts.{all-take, all-drop}
 use Rattle.body.proofs.WalksParts.{part-is}
 use Rattle.project.specs.File.{cacheBlocks, taskCount}
 use Rattle.project.specs.Tasks.{tasksOf}
-use Rattle.reader.proofs.TaskBodies.{TaskBody, task-body}
+use Rattle.reader.proofs.TaskBodies.{TaskBody, task-body, task-bounds}
 use Rattle.sheet.specs.Sheet.{SheetRun, preemptionNumbers, PreemptionInRules, InRules}
 use Rattle.sheet.specs.Parsed.{leadsToEnd, completePath, completeEach}
 use Rattle.sheet.proofs.Places.{SheetPlaces, path-part, PreemptionPlaces, preemption-places, none-left}
@@ -29,7 +29,6 @@ use Rattle.runs.specs.Running.{kept, ownPath}
 use Rattle.replay.specs.Replay.{runIn, undisturbedIn, disturbedIn, Passed13}
 use Rattle.runs.proofs.Segments.{Rises, rises-all, segments, segments-all}
 use Rattle.runs.proofs.PathCounts.{path-row, path-bound}
-use Rattle.replay.proofs.FileLaws.{task-bounds}
 use Rattle.replay.proofs.SheetLaws.{SheetFacts, sheet-facts, own-path}
 use Rattle.runs.proofs.Widths.{count-width}
 

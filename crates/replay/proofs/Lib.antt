@@ -1,4 +1,3 @@
-pub mod FileLaws
 pub mod SheetLaws
 pub mod DisturbedLaws
 pub mod Replays

@@ -1,56 +1,48 @@
 -- What Replay answers is the verdict of the definitions; every disturbed run of an accepted file that a sheet can hold has its answer; demand 3 of the answers.
 -- The idea: the checks of the file are the reader's; checks 12 and 13 are the tests of the sheet, whose run is a disturbed run.
 use mathlib.Core.Path.{_≡_, refl, sym, ap, subst, _∙_}
+use mathlib.Core.Logic.{_↔_}
 use mathlib.Core.Bool.{Bool, true, false, not, true≢false, false≢true}
 use mathlib.Core.List.{List, [], _∷_}
 use Prim.Native.Nat.{ℕ, _+_, _≤_, _<_}
 use native.Mathlib.Omega.{arith}
 use lib.ListN.{length}
+use borrow.Author.Tests.{not-true, not-false}
 use Rattle.cache.specs.References.{All}
 use Rattle.cache.specs.Cache.{direct}
 use Rattle.model.specs.Lists.{Each}
-use Rattle.model.specs.Tasks.{Task, task}
+use Rattle.model.specs.Tasks.{task}
 use Rattle.model.specs.Runs.{Preemption, Preempts, DisturbedRun, U, D}
 use Rattle.model.specs.Demand.{pairSum}
-use Rattle.body.specs.Layout.{InBounds}
 use Rattle.model.proofs.Disjoint.{all-map}
 use Rattle.body.proofs.BlockParts.{all-join}
 use Rattle.project.specs.declared.answers.Check.{Check}
 use Rattle.project.specs.declared.answers.Check.the-variants.{Passed}
 use Rattle.project.specs.declared.answers.Check.the-variants.{Refused as Failed}
-use Rattle.project.specs.declared.answers.Reading.the-variants.{Accepted, Refused as Unread}
+use Rattle.project.specs.declared.answers.Reading.the-variants.{Accepted}
 use Rattle.project.specs.File.{cacheBlocks, taskCount}
-use Rattle.project.specs.Reading.{andThen, unless, fileCheck, pickReading, readingOf}
+use Rattle.project.specs.Checklist.{noTask, numbers, Verdict, verdictOf, Agreeing}
+use Rattle.project.specs.Reading.{fileChecks, fileCheck, readingOf}
 use Rattle.project.specs.Bodies.{accepted}
-use Rattle.project.specs.Verdict.{Fails, fails2, fails3, fails4, fails5, fails6, fails7, fails8, fails9, fails10, Verdict}
 use Rattle.project.specs.Tasks.{tasksOf}
-use Rattle.project.proofs.Accepted.{Passing, passing, accepted-passed}
-use Rattle.project.proofs.FileRules.{file-demand-3, the-verdict}
-use Rattle.reader.proofs.TaskBodies.{reading, tasks-long}
-use Rattle.sheet.specs.Sheet.{SheetRun, preemptionNumbers, sheetNumbers, InRules, AllComplete, Fault12, Fault13, Fits, sheetRun}
+use Rattle.project.proofs.Checklists.{verdict-exact, agreeing-append}
+use Rattle.project.proofs.Verdicts.{file-agreeing}
+use Rattle.project.proofs.Accepted.{unless-passed, then-passed, passing, accepted-passed}
+use Rattle.project.proofs.FileRules.{file-demand-3}
+use Rattle.reader.proofs.TaskBodies.{reading, passing-accepted, tasks-long, task-bounds}
+use Rattle.sheet.specs.Sheet.{preemptionNumbers, sheetNumbers, Fault12, Fault13, Fits, sheetRun}
 use Rattle.sheet.specs.Parsed.{Parsed, broken, parsed, parse, keptSheet, runOf, completePath, completeAll}
-use Rattle.sheet.proofs.Parsing.{Parses, parsed-rules, broken-fault, fault-broken}
+use Rattle.sheet.proofs.Parsing.{parsed-rules, broken-fault, fault-broken}
 use Rattle.sheet.proofs.CompletePaths.{complete-exact, all-complete}
-use Rattle.sheet.proofs.SheetRuns.{disturbedRun, SheetOf, run-sheet, incomplete-fault, fault-incomplete}
+use Rattle.sheet.proofs.SheetRuns.{disturbedRun, run-sheet, incomplete-fault, fault-incomplete}
 use Rattle.replay.specs.declared.Replaying.{Replaying}
 use Rattle.replay.specs.declared.Replaying.the-variants.{Counted, Refused}
-use Rattle.replay.specs.Replay.{runIn, test12, test13, undisturbedIn, disturbedIn, pickReplaying, replayingOf}
-use Rattle.replay.specs.ReplayVerdict.{ReplayFails, failsFile, fails12, fails13, Replayed, ReplayVerdict}
+use Rattle.replay.specs.Replay.{runIn, test12, test13, sheetChecks, replayChecks, replayCheck, undisturbedIn, disturbedIn, pickReplaying, replayingOf}
+use Rattle.replay.specs.ReplayVerdict.{Replayed, ReplayVerdict}
+use Rattle.replay.proofs.CallLaws.{replay-parts, answer-by}
 use Rattle.replay.proofs.DisturbedLaws.{complete-blocks}
-use Rattle.replay.proofs.FileLaws.{task-bounds}
 
 -- ---- the verdict
-
-fails-low : (s : List ℕ) {c a : ℕ} → Fails s c a → c ≤ 10
-fails-low s (fails2 f) = omega arith
-fails-low s (fails3 f) = omega arith
-fails-low s (fails4 f) = omega arith
-fails-low s (fails5 f) = omega arith
-fails-low s (fails6 f) = omega arith
-fails-low s (fails7 f) = omega arith
-fails-low s (fails8 f) = omega arith
-fails-low s (fails9 f) = omega arith
-fails-low s (fails10 f) = omega arith
 
 broken-by : (d : Parsed) → keptSheet d ≡ false → d ≡ broken
 broken-by broken e = refl
@@ -60,87 +52,74 @@ parsed-by : (d : Parsed) → keptSheet d ≡ true → d ≡ parsed (runOf d)
 parsed-by broken e = absurd (false≢true e)
 parsed-by (parsed r) e = refl
 
--- a refusal of the file
-refused-file : (s sheet : List ℕ) (c a : ℕ) → Verdict s (Unread c a) → ReplayVerdict s sheet (Refused c a)
-refused-file s sheet c a (f, lower) = (failsFile f, none)
-  where
-    none : (d e : ℕ) → d < c → ReplayFails s sheet d e → ⊥
-    none d e l (failsFile g) = lower d e l g
-    none d e l (fails12 g) = omega (arith, fails-low s f)
-    none d e l (fails13 g) = omega (arith, fails-low s f)
+module _ (s sheet : List ℕ) where
+  exact12 : (test12 s sheet ≡ true) ↔ Fault12 (taskCount s) sheet
+  exact12 = (
+    λ e. broken-fault (taskCount s) sheet (broken-by _ (not-true (keptSheet (parse (taskCount s) sheet)) e)),
+    λ f. ap (λ (d : Parsed). not (keptSheet d)) (fault-broken (taskCount s) sheet f),
+  )
 
-module _ (s sheet : List ℕ) (fine : (d e : ℕ) → Fails s d e → ⊥) where
-  refused-12 : keptSheet (parse (taskCount s) sheet) ≡ false → ReplayVerdict s sheet (Refused 12 255)
-  refused-12 e = (fails12 (broken-fault (taskCount s) sheet (broken-by _ e)), none)
-    where
-      none : (d a : ℕ) → d < 12 → ReplayFails s sheet d a → ⊥
-      none d a l (failsFile g) = fine d a g
-      none d a l (fails12 g) = omega arith
-      none d a l (fails13 g) = omega arith
-
+  -- a sheet without a fault of check 12 tells its run
   module _ (k : keptSheet (parse (taskCount s) sheet) ≡ true) where
     is-parsed : parse (length (tasksOf s)) sheet ≡ parsed (runIn s sheet)
     is-parsed = rw (tasks-long s) (parsed-by _ k)
 
-    not-12 : Fault12 (taskCount s) sheet → ⊥
-    not-12 f = true≢false (sym k ∙ ap keptSheet (fault-broken (taskCount s) sheet f))
-
-    refused-13 : completeAll (tasksOf s) (runIn s sheet) ≡ false → ReplayVerdict s sheet (Refused 13 255)
-    refused-13 e = (fails13 (incomplete-fault (tasksOf s) sheet (runIn s sheet) is-parsed e), none)
-      where
-        none : (d a : ℕ) → d < 13 → ReplayFails s sheet d a → ⊥
-        none d a l (failsFile g) = fine d a g
-        none d a l (fails12 g) = not-12 g
-        none d a l (fails13 g) = omega arith
-
-    counted : completeAll (tasksOf s) (runIn s sheet) ≡ true → ReplayVerdict s sheet (Counted (undisturbedIn s (runIn s sheet)) (disturbedIn s (runIn s sheet)))
-    counted e = (
-      none,
-      record {
-        run = disturbedRun (tasksOf s) (runIn s sheet) (p .rules) (all-complete (tasksOf s) (runIn s sheet) .0 e);
-        sheet-of = p .numbers;
-        undisturbed = refl;
-        disturbed = refl;
-      },
+    exact13 : (test13 s sheet ≡ true) ↔ Fault13 (tasksOf s) sheet
+    exact13 = (
+      λ e. incomplete-fault (tasksOf s) sheet (runIn s sheet) is-parsed (not-true (completeAll (tasksOf s) (runIn s sheet)) e),
+      λ f. ap not (fault-incomplete (tasksOf s) sheet (runIn s sheet) is-parsed f),
     )
-      where
-        p : Parses (length (tasksOf s)) sheet (runIn s sheet)
-        p = parsed-rules (length (tasksOf s)) sheet (runIn s sheet) is-parsed
 
-        none : (d a : ℕ) → ReplayFails s sheet d a → ⊥
-        none d a (failsFile g) = fine d a g
-        none d a (fails12 g) = not-12 g
-        none d a (fails13 g) = true≢false (sym e ∙ fault-incomplete (tasksOf s) sheet (runIn s sheet) is-parsed g)
+    its-run : completeAll (tasksOf s) (runIn s sheet) ≡ true → Replayed s sheet (undisturbedIn s (runIn s sheet)) (disturbedIn s (runIn s sheet))
+    its-run e =
+        let p = parsed-rules (length (tasksOf s)) sheet (runIn s sheet) is-parsed in
+        record {
+          run = disturbedRun (tasksOf s) (runIn s sheet) (p .rules) (all-complete (tasksOf s) (runIn s sheet) .0 e);
+          sheet-of = p .numbers;
+          undisturbed = refl;
+          disturbed = refl;
+        }
 
--- what Replay answers is the verdict, for every list of bytes and every sheet
-pub replay-verdict : (s : List ℕ) → All (λ (x : ℕ). x < 256) s → (sheet : List ℕ) → ReplayVerdict s sheet (replayingOf s sheet)
-replay-verdict s h sheet = go (fileCheck s) refl
-  where
-    go : (c : Check) → fileCheck s ≡ c → ReplayVerdict s sheet (pickReplaying (andThen c (andThen (unless 12 (test12 s sheet)) (unless 13 (test13 s sheet)))) (undisturbedIn s (runIn s sheet)) (disturbedIn s (runIn s sheet)))
-    go (Failed c a) e = refused-file s sheet c a (subst (λ (x : Check). Verdict s (pickReading x (cacheBlocks s) (taskCount s))) e (the-verdict s h))
-    go Passed e = passed (keptSheet (parse (taskCount s) sheet)) (completeAll (tasksOf s) (runIn s sheet)) refl refl
-      where
-        fine : (d a : ℕ) → Fails s d a → ⊥
-        fine = subst (λ (x : Check). Verdict s (pickReading x (cacheBlocks s) (taskCount s))) e (the-verdict s h) .0
+  kept-by : (Fault12 (taskCount s) sheet → ⊥) → keptSheet (parse (taskCount s) sheet) ≡ true
+  kept-by none = go (keptSheet (parse (taskCount s) sheet)) refl
+    where
+      go : (b : Bool) → keptSheet (parse (taskCount s) sheet) ≡ b → keptSheet (parse (taskCount s) sheet) ≡ true
+      go true e = e
+      go false e = absurd (none (broken-fault (taskCount s) sheet (broken-by _ e)))
 
-        passed : (k c : Bool) → keptSheet (parse (taskCount s) sheet) ≡ k → completeAll (tasksOf s) (runIn s sheet) ≡ c
-            → ReplayVerdict s sheet (pickReplaying (andThen (unless 12 (not k)) (unless 13 (not c))) (undisturbedIn s (runIn s sheet)) (disturbedIn s (runIn s sheet)))
-        passed false c q g = refused-12 s sheet fine q
-        passed true false q g = refused-13 s sheet fine q g
-        passed true true q g = counted s sheet fine q g
+  replay-agreeing : All (λ (x : ℕ). x < 256) s → Agreeing (replayChecks s sheet)
+  replay-agreeing h = agreeing-append (fileChecks s) (sheetChecks s sheet) (file-agreeing s h) (λ all. (exact12, λ p12. (exact13 (kept-by p12), λ p13. tt)))
+
+  -- what Replay answers is the verdict, for every list of bytes and every sheet
+  pub replay-verdict : All (λ (x : ℕ). x < 256) s → ReplayVerdict s sheet (replayingOf s sheet)
+  replay-verdict h = go (replayCheck s sheet) refl (verdict-exact (replayChecks s sheet) (replay-agreeing h))
+    where
+      go : (r : Check) → replayCheck s sheet ≡ r → Verdict (replayChecks s sheet) r → ReplayVerdict s sheet (pickReplaying r (undisturbedIn s (runIn s sheet)) (disturbedIn s (runIn s sheet)))
+      go Passed e v =
+          let (q, f) = then-passed (fileCheck s) (verdictOf (sheetChecks s sheet)) (sym (replay-parts s sheet) ∙ e) in
+          let (k, g) = unless-passed 12 noTask (test12 s sheet) _ f in
+          let c = unless-passed 13 noTask (test13 s sheet) Passed g .0 in
+          (v, its-run (not-false (keptSheet (parse (taskCount s) sheet)) k) (not-false (completeAll (tasksOf s) (runIn s sheet)) c))
+      go (Failed c a) e v = v
+
+  -- "Replay checks 2 to 10, 12, 13."
+  pub replay-order : numbers (replayChecks s sheet) ≡ 2 ∷ 3 ∷ 4 ∷ 5 ∷ 6 ∷ 7 ∷ 8 ∷ 9 ∷ 10 ∷ 12 ∷ 13 ∷ []
+  replay-order = refl
 
 -- ---- a counted run, from the answer
 
 pub accepted-file : (s sheet : List ℕ) (u d : ℕ) → replayingOf s sheet ≡ Counted u d → readingOf s ≡ Accepted (cacheBlocks s) (taskCount s)
-accepted-file s sheet u d e = go (fileCheck s) refl e
+accepted-file s sheet u d e = reading s (passing-accepted s (then-passed (fileCheck s) _ (sym (replay-parts s sheet) ∙ go (replayCheck s sheet) refl) .0))
   where
-    go : (c : Check) → fileCheck s ≡ c → pickReplaying (andThen c (andThen (unless 12 (test12 s sheet)) (unless 13 (test13 s sheet)))) (undisturbedIn s (runIn s sheet)) (disturbedIn s (runIn s sheet)) ≡ Counted u d
-        → readingOf s ≡ Accepted (cacheBlocks s) (taskCount s)
-    go Passed q e = ap (λ (x : Check). pickReading x (cacheBlocks s) (taskCount s)) q
-    go (Failed c a) q e = let z : _≡_ {A = ℕ} 0 1 = cc in absurd (omega arith)
+    go : (c : Check) → replayCheck s sheet ≡ c → replayCheck s sheet ≡ Passed
+    go Passed q = q
+    go (Failed c a) q =
+        let x : _≡_ {A = Replaying} (Refused c a) (Counted u d) = sym (answer-by s sheet (Failed c a) q) ∙ e in
+        let z : _≡_ {A = ℕ} 0 1 = cc in
+        absurd (omega arith)
 
 pub replayed : (s : List ℕ) → All (λ (x : ℕ). x < 256) s → (sheet : List ℕ) (u d : ℕ) → replayingOf s sheet ≡ Counted u d → Replayed s sheet u d
-replayed s h sheet u d e = subst (λ (x : Replaying). ReplayVerdict s sheet x) e (replay-verdict s h sheet) .1
+replayed s h sheet u d e = subst (λ (x : Replaying). ReplayVerdict s sheet x) e (replay-verdict s sheet h) .1
 
 -- demand 3 of what Replay answers
 pub record ReplayBounded (s sheet : List ℕ) (u d : ℕ) : Type 0 where
@@ -160,8 +139,9 @@ pub run-replayed : (s : List ℕ) → accepted (readingOf s) ≡ true → (run :
     → replayingOf s (sheetNumbers (sheetRun (tasksOf s) run)) ≡ Counted (U (direct (cacheBlocks s)) run) (D (direct (cacheBlocks s)) run)
 run-replayed s h run f =
     let o = run-sheet (tasksOf s) run f in
-    let q : parse (taskCount s) (sheetNumbers (sheetRun (tasksOf s) run)) ≡ parsed (sheetRun (tasksOf s) run) = rw (tasks-long s) at (o .parses) in
-    rw (accepted-passed s (cacheBlocks s) (taskCount s) (reading s h) .0, q, o .complete)
+    let sheet = sheetNumbers (sheetRun (tasksOf s) run) in
+    let q : parse (taskCount s) sheet ≡ parsed (sheetRun (tasksOf s) run) = rw (tasks-long s) at (o .parses) in
+    answer-by s sheet Passed (replay-parts s sheet ∙ rw (accepted-passed s (cacheBlocks s) (taskCount s) (reading s h) .0, q, o .complete)) ∙ rw q
 
 module _ (s : List ℕ) (h : accepted (readingOf s) ≡ true) where
   below : (j : ℕ) (path : List ℕ) → j < length (tasksOf s) → completePath (task (tasksOf s) j) path ≡ true → All (λ (x : ℕ). x < 65536) path

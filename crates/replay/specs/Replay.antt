@@ -1,7 +1,7 @@
 -- Document 01, "Calls" and "Numbers of the checks": Replay. Definitions only.
 use mathlib.Core.Path.{_≡_}
 use mathlib.Core.Bool.{Bool, true, not}
-use mathlib.Core.List.{List, []}
+use mathlib.Core.List.{List, [], _∷_, _++_}
 use Prim.Native.Nat.{ℕ}
 use Rattle.cache.specs.Cache.{direct}
 use Rattle.model.specs.Tasks.{task}
@@ -10,10 +10,11 @@ use Rattle.project.specs.declared.answers.Check.{Check}
 use Rattle.project.specs.declared.answers.Check.the-variants.{Passed}
 use Rattle.project.specs.declared.answers.Check.the-variants.{Refused as Failed}
 use Rattle.project.specs.File.{cacheBlocks, taskCount}
-use Rattle.project.specs.Reading.{andThen, unless, fileCheck, readingOf}
+use Rattle.project.specs.Checklist.{Entry, one, noTask, verdictOf}
+use Rattle.project.specs.Reading.{fileChecks, readingOf}
 use Rattle.project.specs.Bodies.{accepted}
 use Rattle.project.specs.Tasks.{tasksOf}
-use Rattle.sheet.specs.Sheet.{SheetRun}
+use Rattle.sheet.specs.Sheet.{SheetRun, Fault12, Fault13}
 use Rattle.sheet.specs.Parsed.{parse, keptSheet, runOf, completeAll}
 use Rattle.replay.specs.declared.Replaying.{Replaying}
 use Rattle.replay.specs.declared.Replaying.the-variants.{Counted, Refused}
@@ -30,9 +31,19 @@ test12 s sheet = not (keptSheet (parse (taskCount s) sheet))
 abbrev pub test13 : List ℕ → List ℕ → Bool
 test13 s sheet = not (completeAll (tasksOf s) (runIn s sheet))
 
+-- the checks on the sheet
+abbrev pub sheetChecks : List ℕ → List ℕ → List Entry
+sheetChecks s sheet =
+    one 12 noTask (test12 s sheet) (Fault12 (taskCount s) sheet)
+    ∷ one 13 noTask (test13 s sheet) (Fault13 (tasksOf s) sheet)
+    ∷ []
+
 -- "Replay checks 2 to 10, 12, 13."
+abbrev pub replayChecks : List ℕ → List ℕ → List Entry
+replayChecks s sheet = fileChecks s ++ sheetChecks s sheet
+
 abbrev pub replayCheck : List ℕ → List ℕ → Check
-replayCheck s sheet = andThen (fileCheck s) (andThen (unless 12 (test12 s sheet)) (unless 13 (test13 s sheet)))
+replayCheck s sheet = verdictOf (replayChecks s sheet)
 
 -- "U and D, the misses of p's own references without and with the preemptions, both from an empty cache"
 abbrev pub undisturbedIn : List ℕ → SheetRun → ℕ

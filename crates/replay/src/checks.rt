@@ -9,7 +9,7 @@ ghost use Rattle.project.specs.Bodies.{accepted};
 ghost use Rattle.project.specs.Tasks.{tasksOf};
 ghost use Rattle.sheet.specs.Parsed.{completePath, completeEach, completeAll};
 ghost use Rattle.replay.specs.Replay.{runIn, Passed12};
-use reader::entry;
+use reader::task_body;
 use sheet::complete::complete;
 use sheet::rules::count;
 
@@ -18,10 +18,7 @@ fn complete_in(file: &[u8], j: usize, path: &[u16]) -> bool
     requires { ⌜ (accepted (readingOf (now file)) ≡ true) × (j < taskCount (now file)) ⌝ }
     ensures { λ r. ⌜ r ≡ completePath (task (tasksOf (now (file .entry))) j) (now (path .entry)) ⌝ }
 {
-    let place = entry(file, j);
-    let from = place.start;
-    let to = from + place.length;
-    complete(&file[from..to], path)
+    complete(task_body(file, j), path)
 }
 
 // Whether the path of each preemption is complete.

@@ -10,24 +10,21 @@ ghost use Rattle.project.specs.File.{cacheBlocks, taskCount};
 ghost use Rattle.project.specs.Reading.{readingOf};
 ghost use Rattle.project.specs.Bodies.{accepted};
 ghost use Rattle.project.specs.Tasks.{tasksOf};
-ghost use Rattle.runs.specs.Running.{kept, ownPath};
+ghost use Rattle.runs.specs.Running.{held, ownPath};
 ghost use Rattle.replay.specs.Replay.{runIn, undisturbedIn, disturbedIn, Passed13};
 use cache::row::Row;
-use reader::entry;
+use reader::task_body;
 use runs::path::run_path;
+use runs::replay_cache::ReplayCache;
 use sheet::rules::count;
 
-// The references of a path of the task numbered j, on a lent cache.
-fn run_task(file: &[u8], j: usize, path: &[u16], n: u8, cells: &mut [u16; 16], misses: &mut u32)
+// The cache after the references of a path of the task numbered j.
+fn run_task(file: &[u8], j: usize, path: &[u16], n: u8, cache: ReplayCache) -> ReplayCache
     requires { ⌜ (accepted (readingOf (now file)) ≡ true) × (j < taskCount (now file)) × (n ≡ cacheBlocks (now file))
-        × All (λ b. b < length (task (tasksOf (now file)) j)) (now path) × (now misses + 16 * length (now path) < 2 ^ 32) ⌝ }
-    ensures { λ _. ⌜ kept (now (cells .exit)) (now (misses .exit))
-        ≡ ownPath (wide 16 n) (task (tasksOf (now (file .entry))) j) (kept (now (cells .entry)) (now (misses .entry))) (now (path .entry)) ⌝ }
+        × All (λ b. b < length (task (tasksOf (now file)) j)) (now path) × (cache .misses + 16 * length (now path) < 2 ^ 32) ⌝ }
+    ensures { λ r. ⌜ held r ≡ ownPath (wide 16 n) (task (tasksOf (now (file .entry))) j) (held cache) (now (path .entry)) ⌝ }
 {
-    let place = entry(file, j);
-    let from = place.start;
-    let to = from + place.length;
-    run_path(&file[from..to], path, n, cells, misses);
+    run_path(task_body(file, j), path, n, cache)
 }
 
 // U: the misses of the run's path from the empty cache.
@@ -36,48 +33,43 @@ pub fn undisturbed(file: &[u8], sheet: &[u16], n: u8) -> u32
     ensures { λ r. ⌜ r ≡ undisturbedIn (now (file .entry)) (runIn (now (file .entry)) (now (sheet .entry))) ⌝ }
 {
     let end = 2 + count(sheet[1]);
-    let mut cells = Row::EMPTY.cells();
-    let mut misses: u32 = 0;
-    run_task(
-        file,
-        count(sheet[0]),
-        &sheet[2..end],
-        n,
-        &mut cells,
-        &mut misses,
-    );
-    misses
+    let cells = Row::EMPTY.cells();
+    let empty = ReplayCache { cells, misses: 0 };
+    let run = run_task(file, count(sheet[0]), &sheet[2..end], n, empty);
+    run.misses
 }
 
 // D: the same with the preemptions. The run goes on from point to point: i is the next position of the path, and the next preemption
-// begins at `at`. What a preempting run misses isn't counted.
+// begins at `at`. A preempting run changes the row; what it misses isn't counted.
 pub fn disturbed(file: &[u8], sheet: &[u16], n: u8) -> u32
     requires { ⌜ Passed13 (now file) (now sheet) n ⌝ }
     ensures { λ r. ⌜ r ≡ disturbedIn (now (file .entry)) (runIn (now (file .entry)) (now (sheet .entry))) ⌝ }
 {
     let p = count(sheet[0]);
     let long = count(sheet[1]);
-    let mut cells = Row::EMPTY.cells();
-    let mut misses: u32 = 0;
+    let cells = Row::EMPTY.cells();
+    let mut cache = ReplayCache { cells, misses: 0 };
     let mut i: usize = 0;
     let mut at = 3 + long;
     while at < sheet.len() {
         let next = count(sheet[at]) + 1;
-        run_task(file, p, &sheet[2 + i..2 + next], n, &mut cells, &mut misses);
+        let own = run_task(file, p, &sheet[2 + i..2 + next], n, cache);
         let from = at + 3;
         let to = from + count(sheet[at + 2]);
-        let mut uncounted: u32 = 0;
-        run_task(
-            file,
-            count(sheet[at + 1]),
-            &sheet[from..to],
-            n,
-            &mut cells,
-            &mut uncounted,
-        );
+        let row = own.cells;
+        let uncounted = ReplayCache {
+            cells: row,
+            misses: 0,
+        };
+        let by = run_task(file, count(sheet[at + 1]), &sheet[from..to], n, uncounted);
+        let after = by.cells;
+        cache = ReplayCache {
+            cells: after,
+            misses: own.misses,
+        };
         i = next;
         at = to;
     }
-    run_task(file, p, &sheet[2 + i..2 + long], n, &mut cells, &mut misses);
-    misses
+    let end = run_task(file, p, &sheet[2 + i..2 + long], n, cache);
+    end.misses
 }

@@ -8,6 +8,7 @@ use body::block::count;
 use checks::all_complete;
 use counts::disturbed;
 use counts::undisturbed;
+use project::answers::NO_TASK;
 use project::answers::Reading;
 use reader::read;
 use sheet::rules::sheet_kept;
@@ -36,12 +37,12 @@ pub fn replay(file: &[u8], sheet: &[u16]) -> Replaying
                 }
                 return Replaying::Refused {
                     check: 13,
-                    task: 255,
+                    task: NO_TASK,
                 };
             }
             Replaying::Refused {
                 check: 12,
-                task: 255,
+                task: NO_TASK,
             }
         }
     }

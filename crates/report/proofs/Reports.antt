@@ -17,6 +17,7 @@ use Rattle.project.specs.Reading.{fileCheck}
 use Rattle.project.specs.Tasks.{tasksOf}
 use Rattle.project.proofs.Accepted.{Passing, passing, then-passed}
 use Rattle.table.specs.Table.{firstFull, pickTable, tableOf, tableCheck, tableAnswer, tableAfter}
+use Rattle.table.proofs.Answers.{later-parts}
 use Rattle.text.specs.Text.{tableText, refusalLine}
 use Rattle.report.specs.Printed.{checksOf, printedAfter, printed}
 
@@ -33,6 +34,10 @@ module _ (s area table : List ℕ) (ha : length area ≡ 24832) (ht : length tab
   unfolding checksOf
   checks = rw (eq-eqb (length area) 24832 ha, eq-eqb (length table) 64 ht)
 
+  -- Table's answer is that of the file's checks
+  pub answered : answer ≡ pickFilling (checksOf s)
+  answered = told ∙ ap pickFilling checks
+
   -- a refusal is printed as one line
   pub printed-refused : {c a : ℕ} → answer ≡ Refused c a → printed s ≡ refusalLine c a
   unfolding printed
@@ -45,7 +50,7 @@ module _ (s area table : List ℕ) (ha : length area ≡ 24832) (ht : length tab
     -- the file is accepted
     pub filled-passing : Passing s
     unfolding checksOf
-    filled-passing = passing s (then-passed (fileCheck s) (firstFull 16 (cacheBlocks s) 0 (tasksOf s)) (sym checks ∙ passed) .0)
+    filled-passing = passing s (then-passed (fileCheck s) (firstFull 16 (cacheBlocks s) 0 (tasksOf s)) (sym (later-parts 16 s) ∙ sym checks ∙ passed) .0)
 
     -- what the table now holds is printed
     pub printed-filled : {numbers : List ℕ} → numbers ≡ tableAfter 16 s area table → printed s ≡ tableText (cacheBlocks s) (taskCount s) numbers

@@ -1,18 +1,18 @@
 -- Document 01, "File E and other examples": what the program crpd prints for a file. Definitions only.
-use mathlib.Core.List.{List}
+use mathlib.Core.List.{List, _++_}
 use Prim.Native.Nat.{ℕ}
 use Rattle.project.specs.declared.answers.Check.{Check}
 use Rattle.project.specs.declared.answers.Check.the-variants.{Passed}
 use Rattle.project.specs.declared.answers.Check.the-variants.{Refused as Failed}
 use Rattle.project.specs.File.{cacheBlocks, taskCount}
-use Rattle.project.specs.Reading.{andThen, fileCheck}
-use Rattle.project.specs.Tasks.{tasksOf}
-use Rattle.table.specs.Table.{firstFull, tableOf}
+use Rattle.project.specs.Checklist.{verdictOf}
+use Rattle.project.specs.Reading.{fileChecks}
+use Rattle.table.specs.Table.{fullChecks, tableOf}
 use Rattle.text.specs.Text.{tableText, refusalLine}
 
 -- "Table checks 1 to 11", of which 1 is about its lists and not about the file
 unfoldable pub checksOf : List ℕ → Check
-checksOf s = andThen (fileCheck s) (firstFull 16 (cacheBlocks s) 0 (tasksOf s))
+checksOf s = verdictOf (fileChecks s ++ fullChecks 16 s)
 
 -- "First n and t; then preempted task, preempting task, pair number"; "A refusal prints one line only"
 abbrev pub printedAfter : Check → List ℕ → List ℕ

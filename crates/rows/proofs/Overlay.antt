@@ -2,7 +2,7 @@
 -- What `over` holds below c, laid over the row, is the row after c turns; what is left of two rows from i on is the same as the whole is.
 use mathlib.Core.Path.{_≡_, refl, sym, ap, _∙_}
 use mathlib.Core.Logic.{_≢_}
-use mathlib.Core.Bool.{true, false, _&&_}
+use mathlib.Core.Bool.{true, false, _&&_, cond}
 use mathlib.Core.List.{List, [], _∷_}
 use Prim.Native.Nat.{ℕ, zero, suc, _+_, _≤_, _<_}
 use native.Mathlib.Numerals.{add-one}
@@ -11,7 +11,6 @@ use lib.Dec.{eqb}
 use lib.ListN.{length, getD, take, drop, set, drop-of-length-le}
 use lib.Seq.{drop-cons, take-all}
 use borrow.Author.Tests.{eq-eqb, ne-eqb}
-use Rattle.cache.specs.Sum.{pick}
 use Rattle.cache.specs.References.{nothing}
 use Rattle.model.specs.Computed.{sameList}
 use Rattle.rows.specs.Overlay.{overlay}
@@ -24,14 +23,14 @@ overlay-kept : (row over : List ℕ) (c : ℕ) → c < length over → getD over
 overlay-kept [] over c h e = refl
 overlay-kept (x ∷ row) [] c h e = absurd (omega arith)
 overlay-kept (x ∷ row) (y ∷ over) zero h e = rw (eq-eqb y nothing e, overlay-none row)
-overlay-kept (x ∷ row) (y ∷ over) (suc c) h e = ap (λ (l : List ℕ). pick (eqb y nothing) x y ∷ l) (overlay-kept row over c (omega arith) e)
+overlay-kept (x ∷ row) (y ∷ over) (suc c) h e = ap (λ (l : List ℕ). cond (eqb y nothing) x y ∷ l) (overlay-kept row over c (omega arith) e)
 
 overlay-set : (row over : List ℕ) (c : ℕ) → c < length over → getD over c 0 ≢ nothing
     → overlay row (take (suc c) over) ≡ set (overlay row (take c over)) c (getD over c 0)
 overlay-set [] over c h e = refl
 overlay-set (x ∷ row) [] c h e = absurd (omega arith)
 overlay-set (x ∷ row) (y ∷ over) zero h e = rw (ne-eqb y nothing e, overlay-none row)
-overlay-set (x ∷ row) (y ∷ over) (suc c) h e = ap (λ (l : List ℕ). pick (eqb y nothing) x y ∷ l) (overlay-set row over c (omega arith) e)
+overlay-set (x ∷ row) (y ∷ over) (suc c) h e = ap (λ (l : List ℕ). cond (eqb y nothing) x y ∷ l) (overlay-set row over c (omega arith) e)
 
 -- ---- the loop that overlays
 

@@ -1,7 +1,7 @@
 -- References made in order, and first references, as a row laid over another: for every width and place function.
 -- A place of an overlaid row is told by that place of both rows; a reference is never nothing, so it shows.
 use mathlib.Core.Path.{_≡_, refl, sym, ap, _∙_}
-use mathlib.Core.Bool.{Bool, true, false}
+use mathlib.Core.Bool.{Bool, true, false, cond}
 use mathlib.Core.List.{List, [], _∷_}
 use Prim.Native.Nat.{ℕ, zero, suc, _<_}
 use native.Mathlib.Omega.{arith}
@@ -9,7 +9,6 @@ use lib.Dec.{eqb}
 use lib.ListN.{length}
 use lib.Seq.{ext-getD}
 use borrow.Author.Tests.{eq-eqb, ne-eqb}
-use Rattle.cache.specs.Sum.{pick}
 use Rattle.cache.specs.References.{nothing, Real, All}
 use Rattle.cache.specs.Cache.{Cache, held, emptyRow, withReferences, firstReferences}
 use Rattle.cache.specs.Firsts.{firstsOver}
@@ -21,7 +20,7 @@ length-overlay [] over = refl
 length-overlay (x ∷ row) [] = refl
 length-overlay (x ∷ row) (y ∷ over) = ap suc (length-overlay row over)
 
-held-overlay : (row over : List ℕ) (c : ℕ) → length row ≡ length over → held (overlay row over) c ≡ pick (eqb (held over c) nothing) (held row c) (held over c)
+held-overlay : (row over : List ℕ) (c : ℕ) → length row ≡ length over → held (overlay row over) c ≡ cond (eqb (held over c) nothing) (held row c) (held over c)
 held-overlay [] [] c e = rw (eq-eqb nothing nothing refl)
 held-overlay [] (y ∷ over) c e = absurd (omega arith)
 held-overlay (x ∷ row) [] c e = absurd (omega arith)
@@ -31,7 +30,7 @@ held-overlay (x ∷ row) (y ∷ over) (suc c) e = held-overlay row over c (omega
 module _ (k : Cache) where
   -- an overlaid row is known by its places
   overlaid : (row over new : List ℕ) → length row ≡ k .width → length over ≡ k .width → length new ≡ k .width
-      → ((c : ℕ) → c < k .width → pick (eqb (held over c) nothing) (held row c) (held over c) ≡ held new c) → overlay row over ≡ new
+      → ((c : ℕ) → c < k .width → cond (eqb (held over c) nothing) (held row c) (held over c) ≡ held new c) → overlay row over ≡ new
   overlaid row over new r o n h =
       ext-getD nothing (overlay row over) new (length-overlay row over ∙ r ∙ sym n)
       (λ c l. held-overlay row over c (r ∙ sym o) ∙ h c (rw (length-overlay row over, r) at l))
@@ -45,7 +44,7 @@ module _ (k : Cache) where
       (length-withReferences k ms row e) (λ c l. at c l (effect k Real ms c l a))
     where
       at : (c : ℕ) → c < k .width → Effect k Real c ms
-          → pick (eqb (held (withReferences k (emptyRow k) ms) c) nothing) (held row c) (held (withReferences k (emptyRow k) ms) c) ≡ held (withReferences k row ms) c
+          → cond (eqb (held (withReferences k (emptyRow k) ms) c) nothing) (held row c) (held (withReferences k (emptyRow k) ms) c) ≡ held (withReferences k row ms) c
       at c l (kept h) =
           let none = h (emptyRow k) (length-emptyRow k) ∙ held-emptyRow k c l in
           rw (eq-eqb (held (withReferences k (emptyRow k) ms) c) nothing none) (sym (h row e))
@@ -54,7 +53,7 @@ module _ (k : Cache) where
           rw (f', ne-eqb f nothing p) (sym (h row e))
 
   first-at : (row ms : List ℕ) (c : ℕ) → c < k .width → length row ≡ k .width → All Real ms
-      → pick (eqb (held (firstsOver k ms (emptyRow k)) c) nothing) (held row c) (held (firstsOver k ms (emptyRow k)) c) ≡ held (firstsOver k ms row) c
+      → cond (eqb (held (firstsOver k ms (emptyRow k)) c) nothing) (held row c) (held (firstsOver k ms (emptyRow k)) c) ≡ held (firstsOver k ms row) c
   first-at row [] c l e a = rw (eq-eqb (held (emptyRow k) c) nothing (held-emptyRow k c l))
   first-at row (m ∷ ms) c l e a =
       rw (
@@ -62,9 +61,9 @@ module _ (k : Cache) where
         held-withReference k (firstsOver k ms row) m c (length-firstsOver k ms row e) l,
       ) (go (eqb (k .place m) c) (first-at row ms c l e (a .1)))
     where
-      go : (b : Bool) → pick (eqb (held (firstsOver k ms (emptyRow k)) c) nothing) (held row c) (held (firstsOver k ms (emptyRow k)) c) ≡ held (firstsOver k ms row) c
-          → pick (eqb (pick b m (held (firstsOver k ms (emptyRow k)) c)) nothing) (held row c) (pick b m (held (firstsOver k ms (emptyRow k)) c))
-          ≡ pick b m (held (firstsOver k ms row) c)
+      go : (b : Bool) → cond (eqb (held (firstsOver k ms (emptyRow k)) c) nothing) (held row c) (held (firstsOver k ms (emptyRow k)) c) ≡ held (firstsOver k ms row) c
+          → cond (eqb (cond b m (held (firstsOver k ms (emptyRow k)) c)) nothing) (held row c) (cond b m (held (firstsOver k ms (emptyRow k)) c))
+          ≡ cond b m (held (firstsOver k ms row) c)
       go true ih = rw (ne-eqb m nothing (a .0))
       go false ih = ih
 

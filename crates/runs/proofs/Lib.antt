@@ -3,3 +3,5 @@ pub mod Segments
 pub mod PathCounts
 pub mod CacheLaws
 pub mod RunLaws
+pub mod Walking
+pub mod LentCache

@@ -6,10 +6,14 @@ use Rattle.cache.specs.Sum.{bit}
 use Rattle.cache.specs.Cache.{Cache, hits, withReference}
 use Rattle.model.specs.Tasks.{Block, Task, block}
 use Rattle.model.specs.Runs.{Kept, ownReferences}
+use Rattle.runs.specs.declared.replay_cache.ReplayCache.{ReplayCache}
 
--- the row and the count that the code lends
+-- a row and a count, and those of the replay cache
 abbrev pub kept : List ℕ → ℕ → Kept
 kept row count = record { row = row; count = count }
+
+abbrev pub held : ReplayCache → Kept
+held c = kept (c .cells) (c .misses)
 
 -- one reference, which adds 1 if it misses
 abbrev pub withOwn : Cache → Kept → ℕ → Kept

@@ -6,7 +6,7 @@ ghost use lib.Dec.{eqb};
 ghost use Rattle.model.specs.Lists.{mem};
 ghost use Rattle.seen.specs.Seen.{seenTable};
 
-// Whether the number is marked.
+// Whether the number is marked. Every table is that of some list (`every-table` of proofs/SeenLaws), so the answer is told for every table.
 pub fn seen(table: &[u64; 1024], number: u16) -> bool
     ensures { λ r. ⌜ ((ms : List ℕ) → now (table .entry) ≡ seenTable ms → r ≡ mem eqb number ms) ⌝ }
 {
@@ -14,7 +14,7 @@ pub fn seen(table: &[u64; 1024], number: u16) -> bool
     word & (1 << (number % 64)) != 0
 }
 
-// The number is marked.
+// The number is marked, and no other; told for every table, as at `seen`.
 pub fn mark(table: &mut [u64; 1024], number: u16)
     ensures { λ _. ⌜ ((ms : List ℕ) → now (table .entry) ≡ seenTable ms → now (table .exit) ≡ seenTable (ms ++ (number ∷ []))) ⌝ }
 {

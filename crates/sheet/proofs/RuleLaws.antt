@@ -12,7 +12,7 @@ use lib.Seq.{drop-cons, drop-drop, take-all}
 use borrow.Author.Tests.{eqb-true, eqb-false, eq-eqb, ne-eqb, lt-ltb, le-ltb, le-leb, lt-leb}
 use Rattle.model.specs.Runs.{Preemption}
 use Rattle.model.proofs.Membership.{both-right}
-use Rattle.sheet.specs.Parsed.{ParsedList, brokenList, parsedList, withPreemption, pathTest, preemptionTest, preemptionsFrom, Parsed, broken, withPath, pickParsed, afterPath, parse, keptList, keptSheet}
+use Rattle.sheet.specs.Parsed.{ParsedList, brokenList, parsedList, withPreemption, pathTest, preemptionTest, preemptionsFrom, broken, withPath, pickParsed, afterPath, parse, keptList, keptSheet, listTest}
 use Rattle.sheet.proofs.Parsing.{path-there}
 
 -- ---- one preemption, where x and y are the numbers of its point and its task
@@ -140,20 +140,26 @@ module _ (t p long : ℕ) where
 
 -- ---- the count and the preemptions
 
-module _ (t p : ℕ) (path : List ℕ) (s : List ℕ) (at : ℕ) where
-  pub after-short : length s ≤ at → false ≡ keptSheet (afterPath t p path (drop at s))
-  unfolding afterPath
-  after-short h = rw (drop-of-length-le s {i = at} h)
+after-list : (t p : ℕ) (path s : List ℕ) → keptSheet (afterPath t p path s) ≡ listTest t p (length path) s
+unfolding afterPath
+after-list t p path [] = refl
+after-list t p path (count ∷ rest) = go (leb count 16)
+  where
+    go : (b : Bool)
+        → keptSheet (pickParsed b (withPath p path (preemptionsFrom t p (length path) count 0 rest)) broken) ≡ b && keptList (preemptionsFrom t p (length path) count 0 rest)
+    go true = kept-run p path (preemptionsFrom t p (length path) count 0 rest)
+    go false = refl
+
+module _ (t p long : ℕ) (s : List ℕ) (at : ℕ) where
+  pub count-none : length s ≤ at → false ≡ listTest t p long (drop at s)
+  count-none h = rw (drop-of-length-le s {i = at} h)
 
   -- where m is the count
-  pub after-many : {m : ℕ} → at < length s → m ≡ getD s at 0 → 16 < m → false ≡ keptSheet (afterPath t p path (drop at s))
-  unfolding afterPath
-  after-many h e g = rw (head s at h, ← e, lt-leb _ 16 g)
+  pub count-many : {m : ℕ} → at < length s → m ≡ getD s at 0 → 16 < m → false ≡ listTest t p long (drop at s)
+  count-many h e g = rw (head s at h, ← e, lt-leb _ 16 g)
 
-  pub after-list : {m : ℕ} {r : Bool} (long : ℕ) → at < length s → m ≡ getD s at 0 → m ≤ 16 → length path ≡ long
-      → r ≡ keptList (preemptionsFrom t p long m 0 (drop (at + 1) s)) → r ≡ keptSheet (afterPath t p path (drop at s))
-  unfolding afterPath
-  after-list {m} long h e g l q = q ∙ sym (rw (head s at h, ← e, le-leb m 16 g, l) (kept-run p path (preemptionsFrom t p long m 0 (drop (at + 1) s))))
+  pub count-list : {m : ℕ} {r : Bool} → at < length s → m ≡ getD s at 0 → m ≤ 16 → r ≡ keptList (preemptionsFrom t p long m 0 (drop (at + 1) s)) → r ≡ listTest t p long (drop at s)
+  count-list {m} h e g q = q ∙ sym (rw (head s at h, ← e, le-leb m 16 g))
 
 -- ---- the whole sheet
 
@@ -192,8 +198,8 @@ module _ (t : ℕ) (s : List ℕ) {p : ℕ} (long : 2 ≤ length s) (ep : p ≡ 
     pub path-within : b ≡ true → 2 + l ≤ length s
     path-within q = omega (arith, path-there (getD s 1 0) (drop 2 s) (test ∙ q), length-drop 2 s)
 
-    pub sheet-list : {r : Bool} → b ≡ true → ((path : List ℕ) → length path ≡ l → r ≡ keptSheet (afterPath t p path (drop (2 + l) s))) → r ≡ keptSheet (parse t s)
-    sheet-list q f =
+    pub sheet-list : {r : Bool} → b ≡ true → r ≡ listTest t p l (drop (2 + l) s) → r ≡ keptSheet (parse t s)
+    sheet-list q e =
         let there = path-there (getD s 1 0) (drop 2 s) (test ∙ q) in
         let k : length (take (getD s 1 0) (drop 2 s)) ≡ l = simp length-take (omega arith) in
-        f (take (getD s 1 0) (drop 2 s)) k ∙ sym (whole true (test ∙ q) ∙ rw (el, drop-drop (getD s 1 0) 2 s))
+        e ∙ sym (whole true (test ∙ q) ∙ after-list t p (take (getD s 1 0) (drop 2 s)) _ ∙ rw (k, ← el, drop-drop l 2 s))

@@ -1,9 +1,10 @@
 -- The run that a sheet is the numbers of, and whether its paths are complete, computed; proofs show that they agree with `Sheet`.
 use mathlib.Core.Bool.{Bool, true, false, not, _&&_}
 use mathlib.Core.List.{List, [], _∷_}
-use Prim.Native.Nat.{ℕ, zero, suc}
+use Prim.Native.Nat.{ℕ, zero, suc, _-_}
 use lib.Dec.{eqb, ltb, leb}
-use lib.ListN.{length, take, drop}
+use lib.ListN.{length, getD, take, drop}
+use Rattle.cache.specs.Sets.{inSet}
 use Rattle.model.specs.Lists.{mem}
 use Rattle.model.specs.Tasks.{Block, Task, block, end, task}
 use Rattle.model.specs.Runs.{Preemption}
@@ -74,6 +75,11 @@ abbrev pub keptSheet : Parsed → Bool
 keptSheet broken = false
 keptSheet (parsed r) = true
 
+-- the numbers after a path of `long` blocks of the task p keep the rules
+abbrev pub listTest : ℕ → ℕ → ℕ → List ℕ → Bool
+listTest t p long [] = false
+listTest t p long (count ∷ rest) = leb count 16 && keptList (preemptionsFrom t p long count 0 rest)
+
 -- the run of a sheet that keeps the rules
 abbrev pub runOf : Parsed → SheetRun
 runOf broken = record { p = 0; path = []; preemptions = [] }
@@ -90,6 +96,16 @@ abbrev pub completePath : Task → List ℕ → Bool
 completePath t [] = false
 completePath t (b ∷ path) = eqb b 0 && leadsToEnd t b path
 
+-- the same by the set of each block's successors, in a task of this many blocks
+abbrev pub leadsBySets : List ℕ → ℕ → ℕ → List ℕ → Bool
+leadsBySets sets blocks b [] = eqb b (blocks - 1)
+leadsBySets sets blocks b (c ∷ path) = ltb c blocks && (inSet (getD sets b 0) c && leadsBySets sets blocks c path)
+
+abbrev pub completeBySets : List ℕ → ℕ → List ℕ → Bool
+completeBySets sets blocks [] = false
+completeBySets sets blocks (b ∷ path) = eqb b 0 && leadsBySets sets blocks b path
+
+-- all paths of a run
 abbrev pub completeEach : List Task → List Preemption → Bool
 completeEach ts [] = true
 completeEach ts (x ∷ xs) = completePath (task ts (x .by)) (x .path) && completeEach ts xs

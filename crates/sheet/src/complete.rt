@@ -2,21 +2,17 @@
 ghost use mathlib.Core.Path.{_≡_};
 ghost use mathlib.Core.Bool.{true};
 ghost use Prim.Native.Nat.{_≤_};
-ghost use lib.ListN.{length};
-ghost use Rattle.model.specs.Tasks.{Task};
-ghost use Rattle.body.specs.Layout.{InBounds};
 ghost use Rattle.body.specs.Decode.{decode, taskOf};
 ghost use Rattle.body.specs.Walk.{keptOf};
-ghost use Rattle.body.specs.Jumps.{jumpSets};
-ghost use Rattle.sheet.specs.Parsed.{completePath};
+ghost use Rattle.sheet.specs.Parsed.{completePath, completeBySets};
 use crate::rules::count;
 use body::jumps::jumps;
 use body::walk;
 
-// Whether the path begins in block 0, steps to successors and ends in the last of the blocks.
+// Whether the path begins in block 0, steps to blocks in the set of the one before and ends in the last of the blocks.
 fn steps_to_end(sets: [u32; 24], blocks: usize, path: &[u16]) -> bool
     requires { ⌜ (1 ≤ blocks) × (blocks ≤ 24) ⌝ }
-    ensures { λ r. ⌜ ((t : Task) → InBounds t → length t ≡ blocks → sets ≡ jumpSets t → r ≡ completePath t (now (path .entry))) ⌝ }
+    ensures { λ r. ⌜ r ≡ completeBySets sets blocks (now (path .entry)) ⌝ }
 {
     if path.len() < 1 {
         return false;

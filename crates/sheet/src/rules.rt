@@ -1,9 +1,8 @@
 // Check 12: whether the numbers of a run sheet keep the rules.
 ghost use mathlib.Core.Path.{_≡_};
-ghost use mathlib.Core.List.{List};
-ghost use Prim.Native.Nat.{ℕ, _+_, _≤_, _<_};
+ghost use Prim.Native.Nat.{_+_, _≤_, _<_};
 ghost use lib.ListN.{length, getD, drop};
-ghost use Rattle.sheet.specs.Parsed.{pathTest, preemptionTest, preemptionsFrom, afterPath, parse, keptList, keptSheet};
+ghost use Rattle.sheet.specs.Parsed.{pathTest, preemptionTest, preemptionsFrom, listTest, parse, keptList, keptSheet};
 
 // The most blocks of a path.
 const BLOCKS: usize = 64;
@@ -90,10 +89,10 @@ fn preemptions_kept(
     at == sheet.len()
 }
 
-// Whether the numbers from `at` on are a count and as many preemptions.
+// Whether the numbers from `at` on are a count and as many preemptions, in a path of `long` blocks of the task p.
 fn list_kept(sheet: &[u16], at: usize, tasks: usize, p: usize, long: usize) -> bool
     requires { ⌜ at ≤ length (now sheet) ⌝ }
-    ensures { λ r. ⌜ ((path : List ℕ) → length path ≡ long → r ≡ keptSheet (afterPath tasks p path (drop at (now (sheet .entry))))) ⌝ }
+    ensures { λ r. ⌜ r ≡ listTest tasks p long (drop at (now (sheet .entry))) ⌝ }
 {
     if sheet.len() <= at {
         return false;

@@ -1,510 +1,17 @@
 // Prints the states of tasks: of E, of figure 1's graph, of forks, loops and blocks without references.
 use area::row::row;
+use example_files::E;
+use example_files::END_WITH_SUCCESSORS;
+use example_files::FIGURE_1;
+use example_files::FIVE_FORKS;
+use example_files::LOOP_WITH_FORK;
+use example_files::ONE_CACHE_BLOCK;
+use example_files::SIX_FORKS;
+use example_files::SIXTEEN_CACHE_BLOCKS;
+use example_files::WITHOUT_REFERENCES;
 use libc::STDOUT_FILENO;
 use project::answers::Filling;
 use states::states::states;
-
-// File E.
-const E: [u8; 33] = [
-    0x43,
-    0x52,
-    0x50,
-    0x44,
-    0x01,
-    0x02,
-    0x02,
-    0x00,
-    0x10,
-    0x00,
-    0x0A,
-    0x00,
-    0x1A,
-    0x00,
-    0x07,
-    0x00,
-    0x01,
-    0x00,
-    0x00,
-    0x01,
-    0x02,
-    0x00,
-    0x00,
-    0x00,
-    0x01,
-    0x00,
-    0x01,
-    0x00,
-    0x00,
-    0x00,
-    0x01,
-    0x02,
-    0x00,
-];
-
-// The graph in figure 1 of source document 002, n = 4.
-const FIGURE_1: [u8; 45] = [
-    0x43,
-    0x52,
-    0x50,
-    0x44,
-    0x01,
-    0x04,
-    0x01,
-    0x00,
-    0x0C,
-    0x00,
-    0x21,
-    0x00,
-    0x04,
-    0x00,
-    0x00,
-    0x02,
-    0x01,
-    0x01,
-    0x02,
-    0x00,
-    0x00,
-    0x00,
-    0x01,
-    0x03,
-    0x03,
-    0x01,
-    0x00,
-    0x02,
-    0x00,
-    0x03,
-    0x00,
-    0x00,
-    0x01,
-    0x02,
-    0x03,
-    0x04,
-    0x00,
-    0x05,
-    0x00,
-    0x00,
-    0x01,
-    0x01,
-    0x00,
-    0x06,
-    0x00,
-];
-
-// Five forks in a row, each loading one of two memory blocks of its own cache block, n = 16.
-const FIVE_FORKS: [u8; 102] = [
-    0x43,
-    0x52,
-    0x50,
-    0x44,
-    0x01,
-    0x10,
-    0x01,
-    0x00,
-    0x0C,
-    0x00,
-    0x5A,
-    0x00,
-    0x10,
-    0x00,
-    0x00,
-    0x02,
-    0x00,
-    0x01,
-    0x02,
-    0x00,
-    0x01,
-    0x01,
-    0x03,
-    0x00,
-    0x00,
-    0x00,
-    0x01,
-    0x01,
-    0x03,
-    0x10,
-    0x00,
-    0x00,
-    0x02,
-    0x00,
-    0x04,
-    0x05,
-    0x00,
-    0x01,
-    0x01,
-    0x06,
-    0x01,
-    0x00,
-    0x00,
-    0x01,
-    0x01,
-    0x06,
-    0x11,
-    0x00,
-    0x00,
-    0x02,
-    0x00,
-    0x07,
-    0x08,
-    0x00,
-    0x01,
-    0x01,
-    0x09,
-    0x02,
-    0x00,
-    0x00,
-    0x01,
-    0x01,
-    0x09,
-    0x12,
-    0x00,
-    0x00,
-    0x02,
-    0x00,
-    0x0A,
-    0x0B,
-    0x00,
-    0x01,
-    0x01,
-    0x0C,
-    0x03,
-    0x00,
-    0x00,
-    0x01,
-    0x01,
-    0x0C,
-    0x13,
-    0x00,
-    0x00,
-    0x02,
-    0x00,
-    0x0D,
-    0x0E,
-    0x00,
-    0x01,
-    0x01,
-    0x0F,
-    0x04,
-    0x00,
-    0x00,
-    0x01,
-    0x01,
-    0x0F,
-    0x14,
-    0x00,
-    0x00,
-    0x00,
-    0x00,
-];
-
-// Six such forks.
-const SIX_FORKS: [u8; 119] = [
-    0x43,
-    0x52,
-    0x50,
-    0x44,
-    0x01,
-    0x10,
-    0x01,
-    0x00,
-    0x0C,
-    0x00,
-    0x6B,
-    0x00,
-    0x13,
-    0x00,
-    0x00,
-    0x02,
-    0x00,
-    0x01,
-    0x02,
-    0x00,
-    0x01,
-    0x01,
-    0x03,
-    0x00,
-    0x00,
-    0x00,
-    0x01,
-    0x01,
-    0x03,
-    0x10,
-    0x00,
-    0x00,
-    0x02,
-    0x00,
-    0x04,
-    0x05,
-    0x00,
-    0x01,
-    0x01,
-    0x06,
-    0x01,
-    0x00,
-    0x00,
-    0x01,
-    0x01,
-    0x06,
-    0x11,
-    0x00,
-    0x00,
-    0x02,
-    0x00,
-    0x07,
-    0x08,
-    0x00,
-    0x01,
-    0x01,
-    0x09,
-    0x02,
-    0x00,
-    0x00,
-    0x01,
-    0x01,
-    0x09,
-    0x12,
-    0x00,
-    0x00,
-    0x02,
-    0x00,
-    0x0A,
-    0x0B,
-    0x00,
-    0x01,
-    0x01,
-    0x0C,
-    0x03,
-    0x00,
-    0x00,
-    0x01,
-    0x01,
-    0x0C,
-    0x13,
-    0x00,
-    0x00,
-    0x02,
-    0x00,
-    0x0D,
-    0x0E,
-    0x00,
-    0x01,
-    0x01,
-    0x0F,
-    0x04,
-    0x00,
-    0x00,
-    0x01,
-    0x01,
-    0x0F,
-    0x14,
-    0x00,
-    0x00,
-    0x02,
-    0x00,
-    0x10,
-    0x11,
-    0x00,
-    0x01,
-    0x01,
-    0x12,
-    0x05,
-    0x00,
-    0x00,
-    0x01,
-    0x01,
-    0x12,
-    0x15,
-    0x00,
-    0x00,
-    0x00,
-    0x00,
-];
-
-// A loop with a fork, n = 2.
-const LOOP_WITH_FORK: [u8; 43] = [
-    0x43,
-    0x52,
-    0x50,
-    0x44,
-    0x01,
-    0x02,
-    0x01,
-    0x00,
-    0x0C,
-    0x00,
-    0x1F,
-    0x00,
-    0x05,
-    0x00,
-    0x00,
-    0x02,
-    0x01,
-    0x01,
-    0x02,
-    0x00,
-    0x00,
-    0x00,
-    0x01,
-    0x01,
-    0x03,
-    0x01,
-    0x00,
-    0x00,
-    0x01,
-    0x01,
-    0x03,
-    0x03,
-    0x00,
-    0x00,
-    0x02,
-    0x00,
-    0x00,
-    0x04,
-    0x00,
-    0x00,
-    0x01,
-    0x02,
-    0x00,
-];
-
-// Two blocks, the end of which leads back to the entry, n = 2.
-const END_WITH_SUCCESSORS: [u8; 28] = [
-    0x43,
-    0x52,
-    0x50,
-    0x44,
-    0x01,
-    0x02,
-    0x01,
-    0x00,
-    0x0C,
-    0x00,
-    0x10,
-    0x00,
-    0x02,
-    0x00,
-    0x00,
-    0x01,
-    0x02,
-    0x01,
-    0x00,
-    0x00,
-    0x01,
-    0x00,
-    0x00,
-    0x01,
-    0x01,
-    0x00,
-    0x02,
-    0x00,
-];
-
-// Three blocks in a row, the second of which has no references, n = 2.
-const WITHOUT_REFERENCES: [u8; 29] = [
-    0x43,
-    0x52,
-    0x50,
-    0x44,
-    0x01,
-    0x02,
-    0x01,
-    0x00,
-    0x0C,
-    0x00,
-    0x11,
-    0x00,
-    0x03,
-    0x00,
-    0x00,
-    0x01,
-    0x01,
-    0x01,
-    0x00,
-    0x00,
-    0x00,
-    0x01,
-    0x00,
-    0x02,
-    0x00,
-    0x00,
-    0x01,
-    0x01,
-    0x00,
-];
-
-// A fork with a block without references, n = 1.
-const ONE_CACHE_BLOCK: [u8; 36] = [
-    0x43,
-    0x52,
-    0x50,
-    0x44,
-    0x01,
-    0x01,
-    0x01,
-    0x00,
-    0x0C,
-    0x00,
-    0x18,
-    0x00,
-    0x04,
-    0x00,
-    0x00,
-    0x02,
-    0x01,
-    0x01,
-    0x02,
-    0x00,
-    0x00,
-    0x00,
-    0x01,
-    0x01,
-    0x03,
-    0x01,
-    0x00,
-    0x00,
-    0x01,
-    0x00,
-    0x03,
-    0x00,
-    0x00,
-    0x01,
-    0x02,
-    0x00,
-];
-
-// Two blocks, n = 16.
-const SIXTEEN_CACHE_BLOCKS: [u8; 31] = [
-    0x43,
-    0x52,
-    0x50,
-    0x44,
-    0x01,
-    0x10,
-    0x01,
-    0x00,
-    0x0C,
-    0x00,
-    0x13,
-    0x00,
-    0x02,
-    0x00,
-    0x00,
-    0x01,
-    0x04,
-    0x01,
-    0x00,
-    0x00,
-    0x0F,
-    0x00,
-    0x1F,
-    0x00,
-    0xFE,
-    0xFF,
-    0x00,
-    0x00,
-    0x01,
-    0x10,
-    0x00,
-];
 
 fn print(text: &[u8]) {
     io::write_all(STDOUT_FILENO, text);
@@ -557,45 +64,72 @@ fn show_count(area: &[u16], live: bool, block: usize) {
     print_number(count);
 }
 
-// The states of a task, with the first n places of each row, or only how many they are.
+// How many rows of each kind a block has.
+fn show_counts(area: &[u16], block: usize) {
+    print(b"  block ");
+    print_number(block as u64);
+    print(b": reaching ");
+    show_count(area, false, block);
+    print(b", live ");
+    show_count(area, true, block);
+    print(b"\n");
+}
+
+// The states of a block, with the first n places of each row, or only how many they are.
+fn show_block(area: &[u16], block: usize, n: usize) {
+    show_counts(area, block);
+    if n != 0 {
+        show_rows(area, b"reaching", false, block, n);
+        show_rows(area, b"live", true, block, n);
+    }
+}
+
+fn show_blocks(area: &[u16], blocks: usize, n: usize) {
+    for block in 0..blocks {
+        show_block(area, block, n);
+    }
+}
+
+fn print_refusal(check: u8, task: u8) {
+    print(b"  refused ");
+    print_number(check as u64);
+    print(b" task ");
+    print_number(task as u64);
+    print(b"\n");
+}
+
+// The states of the first blocks of a task.
 fn show(name: &[u8], file: &[u8], task: usize, blocks: usize, n: usize) {
     let mut area = [0u16; 24832];
     print(name);
     print(b"\n");
     match states(file, task, &mut area) {
         Filling::Refused { check, task: named } => {
-            print(b"  refused ");
-            print_number(check as u64);
-            print(b" task ");
-            print_number(named as u64);
-            print(b"\n");
+            print_refusal(check, named);
         }
         Filling::Filled => {
-            for block in 0..blocks {
-                print(b"  block ");
-                print_number(block as u64);
-                print(b": reaching ");
-                show_count(&area, false, block);
-                print(b", live ");
-                show_count(&area, true, block);
-                print(b"\n");
-                if n != 0 {
-                    show_rows(&area, b"reaching", false, block, n);
-                    show_rows(&area, b"live", true, block, n);
-                }
-            }
+            show_blocks(&area, blocks, n);
         }
     }
 }
 
-fn main() {
+// The states of E and of figure 1's graph.
+fn show_documents() {
     show(b"E, task 0", &E, 0, 1, 2);
     show(b"E, task 1", &E, 1, 1, 2);
     show(b"E, task 2", &E, 2, 0, 2);
     show(b"the graph of figure 1", &FIGURE_1, 0, 4, 4);
+}
+
+// The states of forks.
+fn show_forks() {
     show(b"five forks", &FIVE_FORKS, 0, 16, 0);
     show(b"six forks", &SIX_FORKS, 0, 19, 0);
     show(b"a loop with a fork", &LOOP_WITH_FORK, 0, 5, 2);
+}
+
+// The states of blocks of each kind, and of the smallest and the largest cache.
+fn show_blocks_and_caches() {
     show(
         b"an end block with successors",
         &END_WITH_SUCCESSORS,
@@ -606,4 +140,10 @@ fn main() {
     show(b"a block without references", &WITHOUT_REFERENCES, 0, 3, 2);
     show(b"n = 1", &ONE_CACHE_BLOCK, 0, 4, 1);
     show(b"n = 16", &SIXTEEN_CACHE_BLOCKS, 0, 2, 16);
+}
+
+fn main() {
+    show_documents();
+    show_forks();
+    show_blocks_and_caches();
 }

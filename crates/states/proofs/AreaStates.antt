@@ -2,9 +2,9 @@
 -- The idea: the area is made of parts of known length, so each block's rows and count are read where they were put.
 use mathlib.Core.Path.{_≡_, refl, sym, ap, ap₂, subst, _∙_}
 use mathlib.Core.Logic.{_↔_}
-use mathlib.Core.Bool.{Bool, true, false}
-use mathlib.Core.List.{List, [], _∷_, _++_, append-assoc}
-use Prim.Native.Nat.{ℕ, zero, suc, _+_, _-_, _*_, _<_}
+use mathlib.Core.Bool.{Bool, true, false, cond}
+use mathlib.Core.List.{List, _∷_, _++_, append-assoc}
+use Prim.Native.Nat.{ℕ, zero, suc, _+_, _-_, _*_, _≤_, _<_}
 use native.Mathlib.Omega.{arith}
 use lib.Dec.{leb}
 use lib.ListN.{length, getD, take, drop, replicate, List·getD-append}
@@ -12,12 +12,12 @@ use lib.Seq.{take-at, drop-at, drop-drop, getD-append-add}
 use Rattle.cache.specs.Cache.{Cache, wide, emptyRow}
 use Rattle.cache.specs.References.{nothing}
 use Rattle.cache.proofs.Rows.{length-emptyRow, length-withReferences, length-firstsOver, firstReferences-fold}
-use Rattle.model.specs.Lists.{mem, Each}
+use Rattle.model.specs.Lists.{mem}
 use Rattle.model.specs.Tasks.{Task, task, references}
 use Rattle.model.specs.States.{Reaches, Lives}
 use Rattle.model.specs.Order.{Rising}
 use Rattle.model.specs.Computed.{sameList, reaching, living}
-use Rattle.model.proofs.Membership.{or-left, or-right, sameList-self}
+use Rattle.model.proofs.Membership.{each-of}
 use Rattle.model.proofs.Sorted.{reaching-rows, living-rows, reaching-rising, living-rising}
 use Rattle.rows.specs.Rows.{rowsOf, partOf, flat}
 use Rattle.gather.specs.Graph.{tooMany}
@@ -27,14 +27,16 @@ use Rattle.project.specs.declared.answers.Check.the-variants.{Passed}
 use Rattle.project.specs.declared.answers.Check.the-variants.{Refused as Failed}
 use Rattle.project.specs.declared.answers.Filling.the-variants.{Filled}
 use Rattle.project.specs.File.{cacheBlocks, taskCount}
-use Rattle.project.specs.Reading.{andThen, unless, fileCheck}
+use Rattle.project.specs.Checklist.{noTask, andThen, unless}
+use Rattle.project.specs.Reading.{fileCheck}
 use Rattle.project.specs.Filling.{pickFilling}
 use Rattle.project.specs.Tasks.{tasksOf}
-use Rattle.project.proofs.Accepted.{then-passed, or-false-left, or-false-right}
+use Rattle.project.proofs.Accepted.{unless-passed, then-passed, or-false-left, or-false-right}
 use Rattle.sort.specs.Sorting.{blockPart}
 use Rattle.area.specs.Area.{blockParts, countsFrom, areaOf}
-use Rattle.states.specs.Filling.{overflowing, taskCheck, test1, fillingOf, areaAfter}
-use Rattle.area.specs.RowPart.{rowsIn}
+use Rattle.states.specs.Filling.{taskCheck, test1, fillingOf, areaAfter}
+use Rattle.states.proofs.Fillings.{task-parts}
+use Rattle.area.specs.RowPart.{kindStart, countIn, rowsIn}
 use Rattle.sort.proofs.Sorted.{Sixteen, rows-flat}
 use Rattle.area.proofs.Blocks.{part-length, parts-length}
 use Rattle.area.proofs.Areas.{few-rows, length-counts, counts-at}
@@ -60,10 +62,6 @@ part-at f (suc n) b (suc i) rest h long =
     ∙ ap (λ (k : ℕ). blockPart 16 (f k)) g
 
 -- ---- rows that paths make have sixteen numbers
-
-each-of : (P : List ℕ → Type 0) (xs : List (List ℕ)) → ((x : List ℕ) → mem sameList x xs ≡ true → P x) → Each P xs
-each-of P [] h = tt
-each-of P (x ∷ xs) h = (h x (or-left (sameList x x) (mem sameList x xs) (sameList-self x)), each-of P xs (λ y e. h y (or-right (sameList y x) (mem sameList y xs) e)))
 
 reaching-sixteen : (n : ℕ) (t : Task) (b : ℕ) → Sixteen (reaching (wide 16 n) t b)
 reaching-sixteen n t b =
@@ -113,13 +111,12 @@ module _ (r l : ℕ → List (List ℕ)) (r16 : (b : ℕ) → Sixteen (r b)) (l1
     zeroth : 0 + b ≡ b
     zeroth = omega arith
 
-    r-count : getD whole (24576 + b) 0 ≡ length (r b)
-    r-count =
+    -- the count of the block's rows, live or reaching, and its part
+    count-of : (live : Bool) → countIn 16 whole live b ≡ length (cond live (l b) (r b))
+    count-of false =
         after-rows b ∙ List·getD-append (countsFrom r 24 0) (countsFrom l 24 0 ++ replicate 208 0) 0 b (omega (arith, length-counts r 24 0))
         ∙ counts-at r 24 0 b inside ∙ ap (λ (k : ℕ). length (r k)) zeroth
-
-    l-count : getD whole (24600 + b) 0 ≡ length (l b)
-    l-count =
+    count-of true =
         let e : 24600 + b ≡ 24576 + (24 + b) = omega arith in
         let g : 24 + b ≡ length (countsFrom r 24 0) + b = omega (arith, length-counts r 24 0) in
         ap (λ (k : ℕ). getD whole k 0) e ∙ after-rows (24 + b)
@@ -128,39 +125,36 @@ module _ (r l : ℕ → List (List ℕ)) (r16 : (b : ℕ) → Sixteen (r b)) (l1
         ∙ List·getD-append (countsFrom l 24 0) (replicate 208 0) 0 b (omega (arith, length-counts l 24 0))
         ∙ counts-at l 24 0 b inside ∙ ap (λ (k : ℕ). length (l k)) zeroth
 
-    r-read : rowsIn 16 whole false b ≡ r b
-    r-read =
-        ap₂ (rowsOf 16) r-count (part-at r 24 0 b (blockParts 16 l 24 0 ++ counts) inside (λ j h. r-part j (omega arith)) ∙ ap (λ (k : ℕ). blockPart 16 (r k)) zeroth)
-        ∙ rows-flat (r b) (replicate (512 - length (flat (r b))) nothing) (r16 b)
-
-    l-read : rowsIn 16 whole true b ≡ l b
-    l-read =
-        ap₂ (rowsOf 16) l-count (ap (λ (x : List ℕ). partOf 16 x b) live-from ∙ part-at l 24 0 b counts inside (λ j h. l-part j (omega arith)) ∙ ap (λ (k : ℕ). blockPart 16 (l k)) zeroth)
-        ∙ rows-flat (l b) (replicate (512 - length (flat (l b))) nothing) (l16 b)
+    part-of : (live : Bool) → partOf 16 (drop (kindStart 16 live) whole) b ≡ blockPart 16 (cond live (l b) (r b))
+    part-of false = part-at r 24 0 b (blockParts 16 l 24 0 ++ counts) inside (λ j h. r-part j (omega arith)) ∙ ap (λ (k : ℕ). blockPart 16 (r k)) zeroth
+    part-of true =
+        ap (λ (x : List ℕ). partOf 16 x b) live-from ∙ part-at l 24 0 b counts inside (λ j h. l-part j (omega arith)) ∙ ap (λ (k : ℕ). blockPart 16 (l k)) zeroth
 
 -- ---- an accepting call
 
-passed : (t : Bool) (c : Check) → pickFilling (andThen (unless 1 t) c) ≡ Filled → (t ≡ false) × (c ≡ Passed)
+passed : (t : Bool) (c : Check) → pickFilling (andThen (unless 1 noTask t) c) ≡ Filled → (t ≡ false) × (c ≡ Passed)
 passed true c e = let z : _≡_ {A = ℕ} 0 1 = cc in absurd (omega arith)
 passed false Passed e = (refl, refl)
 passed false (Failed c a) e = let z : _≡_ {A = ℕ} 0 1 = cc in absurd (omega arith)
-
-within : (t : Bool) (j : ℕ) → overflowing t j ≡ Passed → t ≡ false
-within true j e = let z : _≡_ {A = ℕ} 0 1 = cc in absurd (omega arith)
-within false j e = refl
 
 module _ (w : ℕ) (s : List ℕ) (j : ℕ) (area : List ℕ) (ok : fillingOf w s j area ≡ Filled) where
   pub filled-area : areaAfter w s j area ≡ areaOf w (cacheBlocks s) (task (tasksOf s) j)
   unfolding fillingOf areaAfter
   filled-area = let (t, c) = passed (test1 w area) (taskCheck w s j) ok in rw (t, c)
 
-  pub filled-few : test11 w (cacheBlocks s) (task (tasksOf s) j) ≡ false
+  -- the file is accepted, and check 11 of the task passes
+  filled-passed : (fileCheck s ≡ Passed) × (test11 w (cacheBlocks s) (task (tasksOf s) j) ≡ false)
   unfolding fillingOf
-  filled-few =
-      let over = overflowing (test11 w (cacheBlocks s) (task (tasksOf s) j)) j in
-      let below = andThen (unless 15 (leb (taskCount s) j)) over in
-      within (test11 w (cacheBlocks s) (task (tasksOf s) j)) j
-      (then-passed (unless 15 (leb (taskCount s) j)) over (then-passed (fileCheck s) below (passed (test1 w area) (taskCheck w s j) ok .1) .1) .1)
+  filled-passed =
+      let full = test11 w (cacheBlocks s) (task (tasksOf s) j) in
+      let (f, r) = then-passed (fileCheck s) _ (sym (task-parts w s j) ∙ passed (test1 w area) (taskCheck w s j) ok .1) in
+      (f, unless-passed 11 j full Passed (unless-passed 15 noTask (leb (taskCount s) j) _ r .1) .0)
+
+  pub filled-file : fileCheck s ≡ Passed
+  filled-file = filled-passed .0
+
+  pub filled-few : test11 w (cacheBlocks s) (task (tasksOf s) j) ≡ false
+  filled-few = filled-passed .1
 
 module _ (s : List ℕ) (j : ℕ) (area : List ℕ) (ok : fillingOf 16 s j area ≡ Filled) (b : ℕ) (inside : b < 24) where
   abbrev its : Task
@@ -175,26 +169,42 @@ module _ (s : List ℕ) (j : ℕ) (area : List ℕ) (ok : fillingOf 16 s j area 
   none-living : tooMany (living k its) 24 ≡ false
   none-living = or-false-right (tooMany (reaching k its) 24) (tooMany (living k its) 24) (filled-few 16 s j area ok)
 
-  pub reaching-in : rowsIn 16 (areaAfter 16 s j area) false b ≡ reaching k its b
-  reaching-in =
-      ap (λ (x : List ℕ). rowsIn 16 x false b) (filled-area 16 s j area ok)
-      ∙ r-read (reaching k its) (living k its) (reaching-sixteen (cacheBlocks s) its) (living-sixteen (cacheBlocks s) its) none-reaching none-living b inside
+  -- the states of the block: the live ones, or the reaching ones
+  abbrev pub statesOf : Bool → List (List ℕ)
+  statesOf live = cond live (living k its b) (reaching k its b)
 
-  pub living-in : rowsIn 16 (areaAfter 16 s j area) true b ≡ living k its b
-  living-in =
-      ap (λ (x : List ℕ). rowsIn 16 x true b) (filled-area 16 s j area ok)
-      ∙ l-read (reaching k its) (living k its) (reaching-sixteen (cacheBlocks s) its) (living-sixteen (cacheBlocks s) its) none-reaching none-living b inside
+  pub states-sixteen : (live : Bool) → Sixteen (statesOf live)
+  states-sixteen true = living-sixteen (cacheBlocks s) its b
+  states-sixteen false = reaching-sixteen (cacheBlocks s) its b
+
+  pub states-few : (live : Bool) → length (statesOf live) ≤ 32
+  states-few true = few-rows (living k its) none-living b inside
+  states-few false = few-rows (reaching k its) none-reaching b inside
+
+  -- their count and their part, where they stand in the area
+  pub count-at : (live : Bool) → countIn 16 (areaAfter 16 s j area) live b ≡ length (statesOf live)
+  count-at live =
+      rw (filled-area 16 s j area ok) (count-of (reaching k its) (living k its) (reaching-sixteen (cacheBlocks s) its) (living-sixteen (cacheBlocks s) its) none-reaching none-living b inside live)
+
+  pub part-at-place : (live : Bool) → partOf 16 (drop (kindStart 16 live) (areaAfter 16 s j area)) b ≡ blockPart 16 (statesOf live)
+  part-at-place live =
+      rw (filled-area 16 s j area ok) (part-of (reaching k its) (living k its) (reaching-sixteen (cacheBlocks s) its) (living-sixteen (cacheBlocks s) its) none-reaching none-living b inside live)
+
+  pub states-in : (live : Bool) → rowsIn 16 (areaAfter 16 s j area) live b ≡ statesOf live
+  states-in live =
+      ap₂ (rowsOf 16) (count-at live) (part-at-place live)
+      ∙ rows-flat (statesOf live) (replicate (512 - length (flat (statesOf live))) nothing) (states-sixteen live)
 
   -- a row is among the reaching rows of the block exactly when some path makes it
   pub area-reaching : (row : List ℕ) → (mem sameList row (rowsIn 16 (areaAfter 16 s j area) false b) ≡ true) ↔ Reaches k its b row
   area-reaching row =
-      subst (λ (x : List (List ℕ)). (mem sameList row x ≡ true) ↔ Reaches k its b row) (sym reaching-in) (reaching-rows k its b row)
+      subst (λ (x : List (List ℕ)). (mem sameList row x ≡ true) ↔ Reaches k its b row) (sym (states-in false)) (reaching-rows k its b row)
 
   -- and among the live rows exactly when it is live on some way on
   pub area-living : (row : List ℕ) → (mem sameList row (rowsIn 16 (areaAfter 16 s j area) true b) ≡ true) ↔ Lives k its b row
   area-living row =
-      subst (λ (x : List (List ℕ)). (mem sameList row x ≡ true) ↔ Lives k its b row) (sym living-in) (living-rows k its b row)
+      subst (λ (x : List (List ℕ)). (mem sameList row x ≡ true) ↔ Lives k its b row) (sym (states-in true)) (living-rows k its b row)
 
   -- both in dictionary order, no row twice
   pub area-rising : Rising (rowsIn 16 (areaAfter 16 s j area) false b) × Rising (rowsIn 16 (areaAfter 16 s j area) true b)
-  area-rising = (subst Rising (sym reaching-in) (reaching-rising k its b), subst Rising (sym living-in) (living-rising k its b))
+  area-rising = (subst Rising (sym (states-in false)) (reaching-rising k its b), subst Rising (sym (states-in true)) (living-rising k its b))

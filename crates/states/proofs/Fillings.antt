@@ -9,23 +9,27 @@ use lib.ListN.{length, replicate}
 use borrow.Author.Tests.{eq-eqb, ne-eqb, le-leb, lt-leb}
 use Rattle.model.specs.Tasks.{task}
 use Rattle.body.specs.Decode.{decode, taskOf}
-use Rattle.project.specs.declared.answers.Check.{Check}
 use Rattle.project.specs.declared.answers.Check.the-variants.{Passed}
 use Rattle.project.specs.declared.answers.Check.the-variants.{Refused as Failed}
-use Rattle.project.specs.declared.answers.Reading.{Reading}
 use Rattle.project.specs.declared.answers.Reading.the-variants.{Accepted}
 use Rattle.project.specs.declared.answers.Reading.the-variants.{Refused as Unread}
 use Rattle.project.specs.declared.answers.Filling.{Filling}
 use Rattle.project.specs.declared.answers.Filling.the-variants.{Filled, Refused}
 use Rattle.project.specs.File.{cacheBlocks, taskCount, bodyOf}
-use Rattle.project.specs.Reading.{fileCheck, readingOf}
+use Rattle.project.specs.Checklist.{andThen, verdictOf}
+use Rattle.project.specs.Reading.{fileChecks, fileCheck, readingOf}
 use Rattle.project.specs.Bodies.{accepted}
 use Rattle.project.specs.Tasks.{tasksOf}
+use Rattle.project.proofs.Checklists.{verdict-append}
 use Rattle.project.proofs.Accepted.{accepted-passed}
-use Rattle.reader.proofs.TaskBodies.{TaskBody, reading, task-body, refused-check}
+use Rattle.reader.proofs.TaskBodies.{reading, task-body, refused-check}
 use Rattle.graphs.specs.TaskRows.{test11}
 use Rattle.area.specs.Area.{areaLength, areaOf}
-use Rattle.states.specs.Filling.{taskCheck, fillingOf, areaAfter, BodyStates}
+use Rattle.states.specs.Filling.{askedChecks, taskCheck, fillingOf, areaAfter, BodyStates}
+
+-- the checks after 1: those of the file, and those on the task
+pub task-parts : (w : ℕ) (s : List ℕ) (j : ℕ) → taskCheck w s j ≡ andThen (fileCheck s) (verdictOf (askedChecks w s j))
+task-parts w s j = verdict-append (fileChecks s) (askedChecks w s j)
 
 module _ (w : ℕ) (s : List ℕ) (j : ℕ) (area : List ℕ) where
   -- what is answered and what the area holds afterwards
@@ -46,13 +50,13 @@ module _ (w : ℕ) (s : List ℕ) (j : ℕ) (area : List ℕ) where
         (p ∙ (rw (eq-eqb (length area) (areaLength w) long, e)), q ∙ ap (λ (n : ℕ). replicate n 0) h ∙ (rw (eq-eqb (length area) (areaLength w) long, e)))
 
     pub unread : {c a : ℕ} → readingOf s ≡ Unread c a → {new : List ℕ} {answer : Filling} → (answer ≡ Refused c a) × (new ≡ replicate (length area) 0) → Ends answer new
-    unread e q = refused (rw (refused-check s e)) area long q
+    unread e q = refused (task-parts w s j ∙ rw (refused-check s e)) area long q
 
     pub no-task : {n t : ℕ} → readingOf s ≡ Accepted n t → t ≤ j → {new : List ℕ} {answer : Filling} → (answer ≡ Refused 15 255) × (new ≡ replicate (length area) 0)
         → Ends answer new
     no-task {n} {t} e h q =
         let (p, en, et) = accepted-passed s n t e in
-        refused (rw (p, le-leb (taskCount s) j (omega arith))) area long q
+        refused (task-parts w s j ∙ rw (p, le-leb (taskCount s) j (omega arith))) area long q
 
     -- the states of the body of a task, in the area `found`
     module _ (ok : accepted (readingOf s) ≡ true) (below : j < taskCount s) {n : ℕ} {b : List ℕ} {full : Bool} {found : List ℕ} (same : b ≡ bodyOf s j) (is-n : n ≡ cacheBlocks s)
@@ -67,11 +71,11 @@ module _ (w : ℕ) (s : List ℕ) (j : ℕ) (area : List ℕ) where
       told = states .answer ∙ (rw (is-n, its))
 
       pub too-many : full ≡ true → {new : List ℕ} {answer : Filling} → (answer ≡ Refused 11 j) × (new ≡ replicate (length found) 0) → Ends answer new
-      too-many f q = refused (rw (passed, lt-leb (taskCount s) j below, ← told, f)) found (states .long) q
+      too-many f q = refused (task-parts w s j ∙ rw (passed, lt-leb (taskCount s) j below, ← told, f)) found (states .long) q
 
       pub task-filled : full ≡ false → Ends Filled found
       unfolding fillingOf areaAfter
       task-filled f =
-          let e : taskCheck w s j ≡ Passed = rw (passed, lt-leb (taskCount s) j below, ← told, f) in
+          let e : taskCheck w s j ≡ Passed = task-parts w s j ∙ rw (passed, lt-leb (taskCount s) j below, ← told, f) in
           let g : found ≡ areaOf w (cacheBlocks s) (task (tasksOf s) j) = rw (is-n, its) at (states .filled f) in
           (rw (eq-eqb (length area) (areaLength w) long, e), g ∙ (rw (eq-eqb (length area) (areaLength w) long, e)))

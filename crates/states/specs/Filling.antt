@@ -1,37 +1,54 @@
 -- Document 01, "Calls" and "Numbers of the checks": States. Definitions only.
 use mathlib.Core.Path.{_≡_}
+use mathlib.Core.Logic.{_≢_}
 use mathlib.Core.Bool.{Bool, true, false, not}
-use mathlib.Core.List.{List}
-use Prim.Native.Nat.{ℕ}
+use mathlib.Core.List.{List, [], _∷_, _++_}
+use Prim.Native.Nat.{ℕ, _<_}
 use lib.Dec.{eqb, leb}
 use lib.ListN.{length, replicate}
+use Rattle.cache.specs.Cache.{direct}
 use Rattle.model.specs.Tasks.{Task, task}
+use Rattle.model.specs.States.{Fault11}
 use Rattle.project.specs.declared.answers.Check.{Check}
 use Rattle.project.specs.declared.answers.Check.the-variants.{Passed}
 use Rattle.project.specs.declared.answers.Check.the-variants.{Refused as Failed}
 use Rattle.project.specs.File.{cacheBlocks, taskCount}
-use Rattle.project.specs.Reading.{andThen, unless, fileCheck}
+use Rattle.project.specs.Checklist.{Entry, one, noTask, verdictOf}
+use Rattle.project.specs.Reading.{fileChecks}
 use Rattle.project.specs.Tasks.{tasksOf}
 use Rattle.graphs.specs.TaskRows.{test11}
 use Rattle.project.specs.declared.answers.Filling.{Filling}
 use Rattle.project.specs.Filling.{pickFilling}
 use Rattle.area.specs.Area.{areaLength, areaOf}
 
--- check 11 of one task names that task
-abbrev pub overflowing : Bool → ℕ → Check
-overflowing true j = Failed 11 j
-overflowing false j = Passed
-
--- the checks after 1: "States checks 1 to 10, 15, then 11 for its task."
-abbrev pub taskCheck : ℕ → List ℕ → ℕ → Check
-taskCheck w s j = andThen (fileCheck s) (andThen (unless 15 (leb (taskCount s) j)) (overflowing (test11 w (cacheBlocks s) (task (tasksOf s) j)) j))
-
 -- check 1: "work area or table of another length"
 abbrev pub test1 : ℕ → List ℕ → Bool
 test1 w area = not (eqb (length area) (areaLength w))
 
+abbrev pub Fault1 : ℕ → List ℕ → Type 0
+Fault1 w area = length area ≢ areaLength w
+
+-- check 15: "task not below t"
+abbrev pub Fault15 : List ℕ → ℕ → Type 0
+Fault15 s j = j < taskCount s → ⊥
+
+-- the checks on the task that is asked for: "15, then 11 for its task"
+abbrev pub askedChecks : ℕ → List ℕ → ℕ → List Entry
+askedChecks w s j =
+    one 15 noTask (leb (taskCount s) j) (Fault15 s j)
+    ∷ one 11 j (test11 w (cacheBlocks s) (task (tasksOf s) j)) (Fault11 (direct (cacheBlocks s)) (task (tasksOf s) j))
+    ∷ []
+
+-- "States checks 1 to 10, 15, then 11 for its task."
+abbrev pub statesChecks : ℕ → List ℕ → ℕ → List ℕ → List Entry
+statesChecks w s j area = one 1 noTask (test1 w area) (Fault1 w area) ∷ (fileChecks s ++ askedChecks w s j)
+
+-- the checks after 1
+abbrev pub taskCheck : ℕ → List ℕ → ℕ → Check
+taskCheck w s j = verdictOf (fileChecks s ++ askedChecks w s j)
+
 unfoldable pub fillingOf : ℕ → List ℕ → ℕ → List ℕ → Filling
-fillingOf w s j area = pickFilling (andThen (unless 1 (test1 w area)) (taskCheck w s j))
+fillingOf w s j area = pickFilling (verdictOf (statesChecks w s j area))
 
 abbrev pub pickArea : Bool → Check → List ℕ → List ℕ → List ℕ → List ℕ
 pickArea true c old zeros full = old

@@ -13,9 +13,10 @@ ghost use Rattle.states.specs.Filling.{BodyStates, fillingOf, areaAfter}
 use area::fill::sort_area;
 use graphs::task_rows::task_rows;
 use project::answers::Filling;
+use project::answers::NO_TASK;
 use project::answers::Reading;
-use reader::entry;
 use reader::read;
+use reader::task_body;
 use sort::fill_with;
 
 // A refusal: the area becomes zeros.
@@ -45,11 +46,9 @@ fn fill_task(file: &[u8], n: u8, task: usize, area: &mut [u16]) -> Filling
     requires { ⌜ (accepted (readingOf (now file)) ≡ true) × (n ≡ cacheBlocks (now file)) × (task < taskCount (now file)) × (length (now area) ≡ 24832) ⌝ }
     ensures { λ r. ⌜ (r ≡ fillingOf 16 (now (file .entry)) task (now (area .entry))) × (now (area .exit) ≡ areaAfter 16 (now (file .entry)) task (now (area .entry))) ⌝ }
 {
-    let found = entry(file, task);
-    let from = found.start;
-    let to = from + found.length;
+    let body = task_body(file, task);
     let named = task as u8;
-    if fill_body(&file[from..to], n, area) {
+    if fill_body(body, n, area) {
         return refuse(11, named, area);
     }
     Filling::Filled
@@ -62,7 +61,7 @@ pub fn states(file: &[u8], task: usize, area: &mut [u16]) -> Filling
     if area.len() != 24832 {
         return Filling::Refused {
             check: 1,
-            task: 255,
+            task: NO_TASK,
         };
     }
     match read(file) {
@@ -71,7 +70,7 @@ pub fn states(file: &[u8], task: usize, area: &mut [u16]) -> Filling
             if task < t as usize {
                 return fill_task(file, n, task, area);
             }
-            refuse(15, 255, area)
+            refuse(15, NO_TASK, area)
         }
     }
 }

@@ -2,3 +2,4 @@ pub mod UsedLaws
 pub mod NumberLaws
 pub mod TableLaws
 pub mod Answers
+pub mod TableVerdicts

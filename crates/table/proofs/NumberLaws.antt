@@ -3,7 +3,7 @@
 use mathlib.Core.Path.{_≡_, refl, sym, ap, _∙_}
 use mathlib.Core.Bool.{Bool, true, false, true≢false}
 use mathlib.Core.List.{List}
-use Prim.Native.Nat.{ℕ, zero, suc, _≤_, _<_, max}
+use Prim.Native.Nat.{ℕ, _≤_, _<_, max}
 use native.Mathlib.Omega.{arith}
 use lib.ListN.{length, getD, take, drop, replicate, length-replicate}
 use Rattle.cache.specs.Cache.{wide}
@@ -19,8 +19,9 @@ use Rattle.area.proofs.Areas.{few-rows}
 use Rattle.pairs.specs.Pairs.{mostCommon, taskUseful, usedOf, UsedSets, Met}
 use Rattle.pairs.proofs.PairNumbers.{pair-number}
 use Rattle.table.specs.Found.{Few, UsedFound, NumbersFound}
+use Rattle.table.proofs.UsedLaws.{getD-zeros}
 
--- rows that were gathered, in the order in which they came
+-- rows that were gathered, in some order
 held-sorted : {all : ℕ → List (List ℕ)} {rows counts : List ℕ} (b : ℕ) → GatheredRows all rows counts b → sorted (heldRows rows counts b) ≡ all b
 held-sorted b g = rw (g .count) (g .list)
 
@@ -38,6 +39,7 @@ module _ (n : ℕ) (t : Task) {area reached lived : List ℕ} {full : Bool} (h :
         answer = sym e ∙ h .rows .answer;
         found = λ q. absurd (true≢false q);
         rest = λ q. absurd (true≢false q);
+        refused = λ q. z;
       }
 
   module _ (few : full ≡ false) where
@@ -64,15 +66,11 @@ module _ (n : ℕ) (t : Task) {area reached lived : List ℕ} {full : Bool} (h :
           answer = sym none;
           found = λ q j l f. met .each j l ∙ number j l f;
           rest = λ q j l. met .rest j l ∙ at-first j;
+          refused = λ q. absurd (true≢false (sym q));
         }
       where
         at-first : (j : ℕ) → getD old j 0 ≡ 0
-        at-first j = rw z (zeros 8 j)
-          where
-            zeros : (k i : ℕ) → getD {A = ℕ} (replicate k 0) i 0 ≡ 0
-            zeros zero i = refl
-            zeros (suc k) zero = refl
-            zeros (suc k) (suc i) = zeros k i
+        at-first j = rw z (getD-zeros 8 j)
 
         number : (j : ℕ) → j < tasks → Few n (task ts j)
             → max (getD old j 0) (best (λ (u : ℕ). mostCommon u (usedOf sets counts j)) (taskUseful (heldRows (take 12288 area) reached) (heldRows (take 12288 (drop 12288 area)) lived) blocks 0))

@@ -4,11 +4,11 @@ use mathlib.Core.Path.{_≡_, refl, sym, ap, ap₂, _∙_}
 use mathlib.Core.Logic.{_≢_}
 use mathlib.Core.Bool.{Bool, true, false, true≢false}
 use mathlib.Core.List.{List, [], _++_, map}
-use Prim.Native.Nat.{ℕ, _+_, _*_, _-_, _≤_, _<_}
+use Prim.Native.Nat.{ℕ, zero, suc, _+_, _*_, _-_, _≤_, _<_}
 use native.Mathlib.Nat.{not-suc-le-zero}
 use native.Mathlib.Omega.{arith}
 use lib.Dec.{eqb}
-use lib.ListN.{length, getD, set, take, drop, replicate, length-set, length-replicate, getD-replicate}
+use lib.ListN.{length, getD, set, take, drop, replicate, length-set, length-replicate}
 use lib.Seq.{getD-set-same, getD-set-other, take-take}
 use borrow.Author.Tests.{eqb-true, eqb-false}
 use borrow.Rule.Slice.PartMut.{putMid}
@@ -26,7 +26,7 @@ use Rattle.graphs.specs.TaskRows.{KindRows}
 use Rattle.pairs.specs.Pairs.{usedSet, distinct, usedOf, UsedSets}
 use Rattle.area.proofs.Areas.{few-rows}
 use Rattle.pairs.proofs.Distinct.{distinct-mem}
-use Rattle.table.specs.Found.{Few, AllUsed, TaskUsed, UsedFound}
+use Rattle.table.specs.Found.{Few, AllUsed, TaskUsed, UsedFound, NoOthers}
 
 -- ---- rows in any order
 
@@ -58,7 +58,7 @@ counts-few {all} h q b l = let few = few-rows all (sym (h .answer) ∙ q) b l in
 module _ (n : ℕ) (t : Task) (rows counts sets : List ℕ) where
   -- none where a block has too many reaching states
   pub used-full : {full : Bool} → full ≡ true → length sets ≡ 32 → KindRows (reaching (wide 16 n) t) rows counts full → TaskUsed n t rows sets 0
-  used-full q s h = record { rowsLong = h .long; setsLong = s; few = omega arith; found = λ f. absurd (true≢false (sym q ∙ h .answer ∙ f)) }
+  used-full q s h = record { rowsLong = h .long; setsLong = s; few = omega arith; found = λ f. absurd (true≢false (sym q ∙ h .answer ∙ f)); none = λ d. refl }
 
   -- else those of the rows gathered at the end block
   pub used-few : {full : Bool} (blocks count : ℕ) → full ≡ false → length sets ≡ 32 → KindRows (reaching (wide 16 n) t) rows counts full
@@ -66,7 +66,13 @@ module _ (n : ℕ) (t : Task) (rows counts sets : List ℕ) where
       → take count sets ≡ distinct [] (map usedSet (rowsOf 16 (getD counts (blocks - 1) 0) (take (512 * (blocks - 1) + 512 - 512 * (blocks - 1)) (drop (512 * (blocks - 1)) rows))))
       → TaskUsed n t rows sets count
   used-few blocks count q s h e lo hi few f =
-      record { rowsLong = h .long; setsLong = s; few = few; found = λ x v. ap (mem eqb v) f ∙ distinct-mem v (map usedSet (rowsOf 16 (getD counts (blocks - 1) 0) (take (512 * (blocks - 1) + 512 - 512 * (blocks - 1)) (drop (512 * (blocks - 1)) rows)))) ∙ at-end v }
+      record {
+        rowsLong = h .long;
+        setsLong = s;
+        few = few;
+        found = λ x v. ap (mem eqb v) f ∙ distinct-mem v (map usedSet (rowsOf 16 (getD counts (blocks - 1) 0) (take (512 * (blocks - 1) + 512 - 512 * (blocks - 1)) (drop (512 * (blocks - 1)) rows)))) ∙ at-end v;
+        none = λ d. absurd (d (sym (h .answer) ∙ q));
+      }
     where
       last : blocks - 1 ≡ end t
       last = ap (λ (x : ℕ). x - 1) e
@@ -133,7 +139,21 @@ module _ (n : ℕ) (ts : List Task) (j : ℕ) (sets counts part : List ℕ) (cou
             go true e = rw (eqb-true i j e, here) (new .found (rw (eqb-true i j e) at f))
             go false e = let k : i < j = omega (arith, eqb-false i j e) in rw (before i k) (so-far .found i k f)
 
+    pub others-turn : NoOthers n ts j counts → NoOthers n ts (j + 1) more
+    others-turn others i d = go (eqb i j) refl
+      where
+        go : (b : Bool) → eqb i j ≡ b → getD more i 0 ≡ 0
+        go true e =
+            let here = eqb-true i j e in
+            rw (here, getD-set-same counts j count 0 (omega (arith, so-far .room .many))) (new .none (λ f. (rw here at d) (omega arith) f))
+        go false e = getD-set-other counts j i count 0 (eqb-false i j e) ∙ others i (λ l. d (omega arith))
+
 -- ---- the tasks of an accepted file
+
+pub getD-zeros : (k i : ℕ) → getD {A = ℕ} (replicate k 0) i 0 ≡ 0
+getD-zeros zero i = refl
+getD-zeros (suc k) zero = refl
+getD-zeros (suc k) (suc i) = getD-zeros k i
 
 -- no sets yet
 pub used-none : (n : ℕ) (ts : List Task) {sets counts : List ℕ} → length sets ≡ 256 → counts ≡ replicate 8 0 → UsedFound n ts 0 sets counts
@@ -143,8 +163,11 @@ used-none n ts {sets} {counts} long zeros =
           record {
             long = long;
             many = ap length zeros ∙ length-replicate {A = ℕ} 8 0;
-            few = λ j l. rw (zeros, getD-replicate {A = ℕ} 8 j 0 0 l) (omega arith);
+            few = λ j l. rw (zeros, getD-zeros 8 j) (omega arith);
             inside = omega arith;
           };
       found = λ j l. absurd (not-suc-le-zero l);
     }
+
+pub others-none : (n : ℕ) (ts : List Task) {counts : List ℕ} → counts ≡ replicate 8 0 → NoOthers n ts 0 counts
+others-none n ts zeros j d = rw zeros (getD-zeros 8 j)

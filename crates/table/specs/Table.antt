@@ -1,16 +1,20 @@
 -- Document 01, "Calls" and "Numbers of the checks": Table, for rows of w places. Definitions only.
+use mathlib.Core.Logic.{_≢_, _⊎_}
 use mathlib.Core.Bool.{Bool, not, _&&_, _||_, cond}
-use mathlib.Core.List.{List, [], _∷_, _++_}
+use mathlib.Core.List.{List, [], _∷_, _++_, map}
 use Prim.Native.Nat.{ℕ, zero, suc}
 use lib.Dec.{eqb, ltb}
 use lib.ListN.{length}
+use Rattle.cache.specs.Cache.{direct}
 use Rattle.model.specs.Tasks.{Task}
+use Rattle.model.specs.States.{Fault11}
 use Rattle.project.specs.declared.answers.Check.{Check}
 use Rattle.project.specs.declared.answers.Check.the-variants.{Passed}
 use Rattle.project.specs.declared.answers.Check.the-variants.{Refused as Failed}
 use Rattle.project.specs.declared.answers.Filling.{Filling}
 use Rattle.project.specs.File.{cacheBlocks, taskCount}
-use Rattle.project.specs.Reading.{andThen, unless, fileCheck}
+use Rattle.project.specs.Checklist.{Entry, one, each, noTask, Of, lowest, verdictOf}
+use Rattle.project.specs.Reading.{fileChecks}
 use Rattle.project.specs.Filling.{pickFilling}
 use Rattle.project.specs.Tasks.{tasksOf, filePair}
 use Rattle.graphs.specs.TaskRows.{test11}
@@ -20,14 +24,23 @@ use Rattle.area.specs.Area.{areaLength}
 abbrev pub test1 : ℕ → List ℕ → List ℕ → Bool
 test1 w area table = not (eqb (length area) (areaLength w)) || not (eqb (length table) 64)
 
+abbrev pub Fault1 : ℕ → List ℕ → List ℕ → Type 0
+Fault1 w area table = (length area ≢ areaLength w) ⊎ (length table ≢ 64)
+
 -- check 11 "names the lowest task at fault", from task j on
 abbrev pub firstFull : ℕ → ℕ → ℕ → List Task → Check
-firstFull w n j [] = Passed
-firstFull w n j (t ∷ ts) = cond (test11 w n t) (Failed 11 j) (firstFull w n (suc j) ts)
+firstFull w n j ts = lowest 11 j (map (test11 w n) ts)
+
+-- check 11 of all tasks
+abbrev pub fullChecks : ℕ → List ℕ → List Entry
+fullChecks w s = each 11 (map (test11 w (cacheBlocks s)) (tasksOf s)) (Of (Fault11 (direct (cacheBlocks s))) [] (tasksOf s)) ∷ []
 
 -- "Table checks 1 to 11."
+abbrev pub tableChecks : ℕ → List ℕ → List ℕ → List ℕ → List Entry
+tableChecks w s area table = one 1 noTask (test1 w area table) (Fault1 w area table) ∷ (fileChecks s ++ fullChecks w s)
+
 abbrev pub tableCheck : ℕ → List ℕ → List ℕ → List ℕ → Check
-tableCheck w s area table = andThen (unless 1 (test1 w area table)) (andThen (fileCheck s) (firstFull w (cacheBlocks s) 0 (tasksOf s)))
+tableCheck w s area table = verdictOf (tableChecks w s area table)
 
 abbrev pub tableAnswer : ℕ → List ℕ → List ℕ → List ℕ → Filling
 tableAnswer w s area table = pickFilling (tableCheck w s area table)

@@ -9,6 +9,7 @@ use body::block::count;
 use numbers::find_numbers;
 use project::answers::Check;
 use project::answers::Filling;
+use project::answers::NO_TASK;
 use project::answers::Reading;
 use reader::read;
 use used::find_used;
@@ -32,7 +33,7 @@ pub fn table(file: &[u8], area: &mut [u16], table: &mut [u16]) -> Filling
     if area.len() != 24832 || table.len() != 64 {
         return Filling::Refused {
             check: 1,
-            task: 255,
+            task: NO_TASK,
         };
     }
     match read(file) {

@@ -19,10 +19,11 @@ use body::block_count;
 use graphs::task_rows::task_rows;
 use pairs::numbers::meet_task;
 use project::answers::Check;
-use reader::entry;
+use reader::task_body;
 use reader::tasks::task_byte;
 
-// The pair numbers of the task of a body, preempted by each task; true where a block has too many states.
+// The pair numbers of the task of a body, preempted by each task; true where a block has too many states. Told only where the sets are the used sets
+// of some tasks. Left open are the area, and the numbers against tasks with too many reaching states.
 fn task_numbers(
     body: &[u8],
     n: u8,
@@ -55,7 +56,8 @@ fn task_numbers(
     false
 }
 
-// The pair numbers of each task of an accepted file, or the lowest task of which a block has too many states.
+// The pair numbers of each task of an accepted file, or the lowest task of which a block has too many states. Left open are the numbers after a
+// refusal, and the area.
 pub fn find_numbers(
     file: &[u8],
     n: u8,
@@ -71,11 +73,8 @@ pub fn find_numbers(
         × (r ≡ Passed → now (numbers .exit) ≡ tableOf (now (file .entry))) ⌝ }
 {
     for i in 0..tasks {
-        let place = entry(file, i);
-        let from = place.start;
-        let to = from + place.length;
         if task_numbers(
-            &file[from..to],
+            task_body(file, i),
             n,
             area,
             sets,

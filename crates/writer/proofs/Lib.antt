@@ -2,3 +2,4 @@ pub mod PutLaws
 pub mod EndsLaws
 pub mod CheckLaws
 pub mod Trips
+pub mod WriterVerdicts

@@ -9,20 +9,19 @@ use lib.Dec.{ltb}
 use lib.ListN.{length, take, drop, length-append}
 use lib.Seq.{take-at, take-append-seam, drop-append-seam}
 use borrow.Author.Tests.{eq-eqb, le-ltb}
-use Rattle.model.specs.Lists.{Each}
 use Rattle.project.specs.declared.answers.Check.{Check}
 use Rattle.project.specs.declared.answers.Check.the-variants.{Passed}
 use Rattle.project.specs.declared.answers.Check.the-variants.{Refused as Failed}
 use Rattle.project.specs.declared.answers.Reading.the-variants.{Accepted}
 use Rattle.project.specs.declared.answers.Writing.the-variants.{Written}
 use Rattle.project.specs.File.{cacheBlocks, taskCount, bodies, joined, fileOf}
-use Rattle.project.specs.Reading.{test5, test6, tasksCheck, readingOf}
+use Rattle.project.specs.Reading.{test5, countTest, tasksCheck, readingOf}
 use Rattle.project.specs.Writing.{total, cut, fileLength, writerCheck, pickWriting, writingOf, outOf}
 use Rattle.project.proofs.TaskFaults.{Bytes}
 use Rattle.project.proofs.RoundTrips.{length-file, length-bodies, file-bodies}
-use Rattle.project.proofs.Accepted.{Passing, passing, accepted-passed, written-accepted, written-again}
+use Rattle.project.proofs.Accepted.{passing, accepted-passed, written-accepted, written-again}
 use Rattle.writer.proofs.PutLaws.{length-cut, joined-cut}
-use Rattle.writer.proofs.CheckLaws.{AllPassed, all-passed, at-none, answer-written}
+use Rattle.writer.proofs.CheckLaws.{all-passed, at-none, answer-written}
 
 -- ---- what is written is read
 
@@ -34,7 +33,7 @@ module _ (n : ℕ) (s ls out : List ℕ) where
       go Passed q e = (q, cc)
       go (Failed c a) q e = let z : _≡_ {A = ℕ} 0 1 = cc in absurd (omega arith)
 
-  length-written : total ls ≡ length s → length (fileOf n (cut s ls)) ≡ fileLength s ls
+  pub length-written : total ls ≡ length s → length (fileOf n (cut s ls)) ≡ fileLength s ls
   length-written e = length-file n (cut s ls) ∙ rw (length-cut s ls, joined-cut s ls e)
 
   -- the counted bytes are the file
@@ -50,7 +49,7 @@ pub written-read : (n : ℕ) (s ls out : List ℕ) (l : ℕ) → writingOf n s l
 written-read n s ls out l e =
     let p = all-passed n s ls out (written-passed n s ls out l e .0) in
     let f = written-file n s ls out l e in
-    let t6 : test6 (length (cut s ls)) ≡ false = rw (length-cut s ls) (p .past .0 .1) in (
+    let t6 : countTest (length (cut s ls)) ≡ false = rw (length-cut s ls) (p .past .0 .1) in (
       rw f (written-accepted n (cut s ls) (p .past .0 .0) t6 (p .tasks) ∙ ap (Accepted n) (length-cut s ls)),
       rw f (file-bodies n (cut s ls)),
     )
@@ -77,14 +76,14 @@ within : (x high : ℕ) → 1 ≤ x → x ≤ high → (ltb x 1 || ltb high x) �
 within x high a b = rw (le-ltb x 1 a, le-ltb high x b)
 
 -- bodies that pass the checks are written, joined and with their lengths, as their file
-pub written-back : (n : ℕ) (bs : List (List ℕ)) (out : List ℕ) → test5 n ≡ false → test6 (length bs) ≡ false → tasksCheck bs ≡ Passed → length (fileOf n bs) ≤ length out
+pub written-back : (n : ℕ) (bs : List (List ℕ)) (out : List ℕ) → test5 n ≡ false → countTest (length bs) ≡ false → tasksCheck bs ≡ Passed → length (fileOf n bs) ≤ length out
     → (writingOf n (joined bs) (lengths bs) out ≡ Written (length (fileOf n bs))) × (take (length (fileOf n bs)) (outOf n (joined bs) (lengths bs) out) ≡ fileOf n bs)
 written-back n bs out e5 e6 ok room =
     let s = joined bs in
     let ls = lengths bs in
     let same = cut-joined bs in
     let long : fileLength s ls ≡ length (fileOf n bs) = omega (arith, length-file n bs, length-lengths bs) in
-    let t6 : test6 (length ls) ≡ false = rw (length-lengths bs) e6 in
+    let t6 : countTest (length ls) ≡ false = rw (length-lengths bs) e6 in
     let fit = eq-eqb (total ls) (length s) (total-joined bs) in
     let q = at-none n s ls out ((e5, t6), fit) (ap tasksCheck same ∙ ok) (omega arith) in
     let (a, b) = answer-written n s ls out q refl in (
@@ -101,7 +100,7 @@ read-written f n t out h e room =
     let k = length-bodies f (taskCount f) 0 in
     let again : fileOf n (bodies f) ≡ f = ap (λ x. fileOf x (bodies f)) en ∙ written-again f h p in
     let e5 : test5 n ≡ false = rw en (within (cacheBlocks f) 16 (p .n-low) (p .n-high)) in
-    let e6 : test6 (length (bodies f)) ≡ false = rw k (within (taskCount f) 8 (p .t-low) (p .t-high)) in
+    let e6 : countTest (length (bodies f)) ≡ false = rw k (within (taskCount f) 8 (p .t-low) (p .t-high)) in
     let (a, b) = written-back n (bodies f) out e5 e6 (p .tasks) (omega (arith, ap length again)) in (
       a ∙ ap (λ x. Written (length x)) again,
       ap (λ x. take (length x) (outOf n (joined (bodies f)) (lengths (bodies f)) out)) (sym again) ∙ b ∙ again,

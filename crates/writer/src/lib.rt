@@ -5,17 +5,11 @@ use crate::ends::ends_of;
 use crate::put::put_file;
 use project::answers::Check;
 use project::answers::Writing;
+use project::answers::refused;
 use reader::tasks::check_tasks;
 
 mod ends;
 mod put;
-
-// A check that fails and names no task.
-fn refused(check: u8) -> Check
-    ensures { λ r. ⌜ r ≡ Check.Refused check 255 ⌝ }
-{
-    Check::Refused { check, task: 255 }
-}
 
 // The first of the checks 5 to 10 and 14 that fails.
 fn first_failed(n: u8, bodies: &[u8], lengths: &[usize], out: &[u8]) -> Check

@@ -18,16 +18,25 @@ array-share-prefix-out : tie.Need-array-share-prefix-out
 array-share-prefix-out c = search needs
 
 slice-aggregate-write-all : tie.Need-slice-aggregate-write-all
-slice-aggregate-write-all c = sym (length-take-le (c .before .before .before .report .result) (c .before .before .before .report .last .1 .1 .0) (array-share-prefix-out (c .before)))
+slice-aggregate-write-all c = sym (length-take-le (c .before .before .before .report .result .length) (c .before .before .before .report .last .1 .1 .0) (array-share-prefix-out (c .before)))
 
 write-all-requires : tie.Need-write-all-requires
 write-all-requires c κs = search needs
 
-slice-aggregate-write-all-2 : tie.Need-slice-aggregate-write-all-2
-slice-aggregate-write-all-2 c = search needs
+slice-aggregate-fail : tie.Need-slice-aggregate-fail
+slice-aggregate-fail c = search needs
 
-write-all-requires-2 : tie.Need-write-all-requires-2
-write-all-requires-2 c κs = search needs
+fail-requires : tie.Need-fail-requires
+fail-requires c κs = search needs
+
+enum-known-answer : tie.Need-enum-known-answer
+enum-known-answer c = search needs
+
+explain-requires : tie.Need-explain-requires
+explain-requires c κs = search needs
+
+enum-told : tie.Need-enum-told
+enum-told c = search needs
 
 returns : tie.Need-returns
 returns c = search needs
@@ -45,7 +54,10 @@ print-report-spec =
     array-share-prefix-out
     slice-aggregate-write-all
     write-all-requires
-    slice-aggregate-write-all-2
-    write-all-requires-2
+    slice-aggregate-fail
+    fail-requires
+    enum-known-answer
+    explain-requires
+    enum-told
     returns
     returns-2)

@@ -14,10 +14,10 @@ use Rattle.crpd.proofs.read_input.Lts as lts
 use Rattle.crpd.proofs.read_some.Reads as read-some-reads
 
 abbrev Inv-loop : tie.InvT-loop
-Inv-loop room₀ done₀ room done = (done ≤ length room) × (length room ≡ length room₀)
+Inv-loop fd room₀ done₀ room done = (done ≤ length room) × (length room ≡ length room₀)
 
 abbrev μ-loop : tie.MeasureT-loop
-μ-loop room₀ done₀ room done = length room₀ - done
+μ-loop fd room₀ done₀ room done = length room₀ - done
 
 loop-holds : tie.Need-loop-holds Inv-loop μ-loop
 loop-holds c = search needs
@@ -61,11 +61,11 @@ within c =
 
 -- the room has as many bytes as before
 kept : (c : tie.Else1 Inv-loop μ-loop)
-    → length (putMid (c .before .before .before .before .before .before .before .before .before .loop .done) (length (c .before .before .before .before .before .before .before .before .before .loop .room) - c .before .before .before .before .before .before .before .before .before .loop .done) (c .before .before .before .before .before .before .before .before .before .loop .room) (c .before .before .before .before .before .before .read-some .last .0))
+    → length (putMid (c .before .before .before .before .before .before .before .before .before .loop .done) (length (c .before .before .before .before .before .before .before .before .before .loop .room) - c .before .before .before .before .before .before .before .before .before .loop .done) (c .before .before .before .before .before .before .before .before .before .loop .room) (c .before .before .before .before .before .before .read-some .last .1 .0))
     ≡ length (c .before .before .before .before .before .before .before .before .before .loop .room)
 kept c =
     let at = c .before .before .before .before .before .before .before .before .before .loop in
-    same-len-mid (at .done) (length (at .room) - at .done) (at .room) (c .before .before .before .before .before .before .read-some .last .0) (c .before .before .before .before .before .before .read-some .kept .0)
+    same-len-mid (at .done) (length (at .room) - at .done) (at .room) (c .before .before .before .before .before .before .read-some .last .1 .0) (c .before .before .before .before .before .before .read-some .kept .1 .0)
 
 add-done : tie.Need-add-done Inv-loop μ-loop
 add-done c = let w = within c in search needs

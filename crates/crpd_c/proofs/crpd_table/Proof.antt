@@ -10,7 +10,7 @@ use Rattle.crpd_c.proofs.crpd_table.Tie as tie
 returns : tie.Need-returns
 returns c =
     let e = wrong 1 (c .before .before .before .before .before .args .named .now) (c .if1 .taken) in
-    (rw e, rw e, rw e, refl)
+    (rw e, rw e, rw e, refl, λ _. refl)
 
 table-requires : tie.Need-table-requires
 table-requires c κs = search needs
@@ -43,7 +43,7 @@ returns-2 c =
     let h = c .before .before .before .before .before .before .before .before .before .if1 .left in
     let call = c .before .before .before .before .before .before .table .ensures in
     let e = sym (call .0) ∙ c .enum-told .given .1 in
-    (status 1 named h (sym (ap statusOf e)), leaving 1 named h (start .args .numbers .now) (call .1), naming named h (sym (ap namedOf e)), call .2)
+    (status 1 named h (sym (ap statusOf e)), leaving 1 named h (start .args .numbers .now) (call .1), naming named h (sym (ap namedOf e)), call .2, λ other. absurd (other h))
 
 same-length-4 : tie.Need-same-length-4
 same-length-4 c = search needs
@@ -61,7 +61,7 @@ returns-3 c =
     let h = c .before .before .before .before .before .before .before .before .before .before .if1 .left in
     let call = c .before .before .before .before .before .before .before .table .ensures in
     let e = sym (call .0) ∙ c .before .check .given .1 in
-    (status 1 named h (sym (ap statusOf e)), leaving 1 named h (start .args .numbers .now) (call .1), naming named h (sym (ap namedOf e)), call .2)
+    (status 1 named h (sym (ap statusOf e)), leaving 1 named h (start .args .numbers .now) (call .1), naming named h (sym (ap namedOf e)), call .2, λ other. absurd (other h))
 
 pub crpd-table-spec : {M : Type 1} → statement M
 crpd-table-spec =

@@ -21,7 +21,7 @@ array-share-prefix-out : tie.Need-array-share-prefix-out
 array-share-prefix-out c = search needs
 
 slice-aggregate-print : tie.Need-slice-aggregate-print
-slice-aggregate-print c = sym (length-take-le (c .before .before .before .before .report .result) (c .before .before .before .before .report .last .1 .1 .0) (array-share-prefix-out (c .before)))
+slice-aggregate-print c = sym (length-take-le (c .before .before .before .before .report .result .length) (c .before .before .before .before .report .last .1 .1 .0) (array-share-prefix-out (c .before)))
 
 print-requires-2 : tie.Need-print-requires-2
 print-requires-2 c κs = search needs

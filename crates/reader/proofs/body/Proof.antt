@@ -1,5 +1,5 @@
 -- `body` meets its contract: the place lies in the file, and the part there is the body. Assumes nothing.
-use mathlib.Core.Path.{ap}
+use mathlib.Core.Path.{refl, ap}
 use Prim.Native.Nat.{ℕ, _+_}
 use native.Mathlib.Omega.{arith}
 use Rattle.reader.proofs.ReadLaws.{place-inside, place-body}
@@ -32,7 +32,11 @@ part-result-end c =
 returns : tie.Need-returns
 returns c =
     let args = c .before .before .before .before .args in
-    place-body (args .file .now) (args .task) (c .before .before .place .ensures .0) (ap (λ (x : ℕ). c .before .before .place .result .start + x) (c .before .before .place .ensures .1))
+    let found = c .before .before .place in (
+      place-body (args .file .now) (args .task) (found .ensures .0) (ap (λ (x : ℕ). found .result .start + x) (found .ensures .1)),
+      refl,
+      omega (arith, found .ensures .0),
+    )
 
 pub body-spec : {M : Type 1} → statement M
 body-spec =

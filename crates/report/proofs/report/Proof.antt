@@ -1,11 +1,11 @@
 -- `report` meets its contract: each answer of Table is put as the text that is printed for it. Assumes nothing.
-use mathlib.Core.Path.{refl}
+use mathlib.Core.Path.{refl, sym, _∙_}
 use native.Mathlib.Omega.{arith}
 use lib.ListN.{replicate}
 use Rattle.project.specs.File.{cacheBlocks, taskCount}
 use Rattle.project.proofs.Accepted.{Passing}
 use Rattle.text.specs.Text.{refusalLine, tableText}
-use Rattle.report.proofs.Reports.{printed-refused, filled-passing, printed-filled, at-front}
+use Rattle.report.proofs.Reports.{answered, printed-refused, filled-passing, printed-filled, at-front}
 use borrow.Author.Needs.{needs}
 use Rattle.report.proofs.report.Statement.{statement}
 use Rattle.report.proofs.report.Tie as tie
@@ -57,9 +57,12 @@ returns c =
     let start = c .before .before .before .before .before .before .before .before .before .before .before .before .before .before .before .before in
     let answer = c .before .before .before .before .before .before .before .before .before .before .table in
     let told = c .before .before .before .before .before .check .given in
+    let front =
     at-front (start .args .file .now) (start .args .out .now) (refusalLine (told .0 .0) (told .0 .1 .0))
     (printed-refused (start .args .file .now) (start .args .area .now) (replicate 64 0) (start .pre .0) refl (answer .ensures .0) (told .1))
     (c .before .before .refusal-text .ensures)
+    in
+    (sym (told .1) ∙ answered (start .args .file .now) (start .args .area .now) (replicate 64 0) (start .pre .0) refl (answer .ensures .0), front .0, front .1, front .2)
 
 same-length-3 : tie.Need-same-length-3
 same-length-3 c = search needs
@@ -73,9 +76,12 @@ returns-2 c =
     let answer = c .before .before .before .before .before .before .before .before .before .before .before .before .table in
     let told = c .before .before .before .before .before .before .before .enum-told .given .1 in
     let s = start .args .file .now in
+    let front =
     at-front s (start .args .out .now) (tableText (cacheBlocks s) (taskCount s) (answer .last .1 .1 .0))
     (printed-filled s (start .args .area .now) (replicate 64 0) (start .pre .0) refl (answer .ensures .0) told (answer .ensures .1))
     (c .before .before .table-text .ensures)
+    in
+    (sym told ∙ answered s (start .args .area .now) (replicate 64 0) (start .pre .0) refl (answer .ensures .0), front .0, front .1, front .2)
 
 pub report-spec : {M : Type 1} → statement M
 report-spec =

@@ -1,5 +1,5 @@
 -- `row` meets its contract: the place lies in the area, and the part there is the row. Assumes nothing.
-use mathlib.Core.Path.{ap}
+use mathlib.Core.Path.{refl, ap}
 use Prim.Native.Nat.{ℕ, _+_}
 use native.Mathlib.Omega.{arith}
 use borrow.Author.Needs.{needs}
@@ -38,8 +38,11 @@ part-result-end c =
 returns : tie.Need-returns
 returns c =
     let args = c .before .before .before .before .args in
-    let found = c .before .before .row-place in
-    place-row (args .area .now) (args .live) (args .block) (args .number) (found .ensures .0) (ap (λ (x : ℕ). found .result .start + x) (found .ensures .1))
+    let found = c .before .before .row-place in (
+      place-row (args .area .now) (args .live) (args .block) (args .number) (found .ensures .0) (ap (λ (x : ℕ). found .result .start + x) (found .ensures .1)),
+      refl,
+      omega (arith, found .ensures .0),
+    )
 
 pub row-spec : {M : Type 1} → statement M
 row-spec =

@@ -7,9 +7,8 @@ use Prim.Native.Nat.{ℕ, _≤_, _-_}
 use native.Mathlib.Omega.{arith}
 use lib.ListN.{getD}
 use borrow.Author.Needs.{needs}
-use Rattle.cache.specs.Sets.{bits}
+use Rattle.cache.specs.Sets.{bits, inSet}
 use Rattle.cache.proofs.Bits.{bits-set, bits-skip}
-use Rattle.gather.specs.Graph.{inSet}
 use Rattle.body.proofs.Passes.{in-set, not-in-set}
 use Rattle.graphs.specs.Turned.{leadingTo}
 use Rattle.graphs.proofs.predecessors.leading_to.Statement.{statement}

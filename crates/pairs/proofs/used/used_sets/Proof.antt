@@ -5,16 +5,16 @@ use mathlib.Core.List.{[], map}
 use Prim.Native.Nat.{ℕ, _-_, _≤_, _<_}
 use native.Mathlib.Omega.{arith}
 use borrow.Author.Needs.{needs}
-use lib.ListN.{length, take, length-set}
+use lib.ListN.{length, take, drop, length-set}
 use Rattle.rows.specs.Rows.{rowsOf}
 use Rattle.pairs.specs.Pairs.{usedSet, distinct}
-use Rattle.pairs.proofs.UsedSets.{used-old, used-new}
+use Rattle.pairs.proofs.UsedSets.{used-old, used-new, after-new}
 use Rattle.pairs.proofs.used.used_sets.Statement.{statement}
 use Rattle.pairs.proofs.used.used_sets.Tie as tie
 
 abbrev Inv-loop : tie.InvT-loop
 Inv-loop part count sets₀ found₀ k₀ sets found k =
-    (k ≤ count) × (found ≤ k) × (length sets ≡ 32) × (take found sets ≡ distinct [] (map usedSet (rowsOf 16 k part)))
+    (k ≤ count) × (found ≤ k) × (length sets ≡ 32) × (take found sets ≡ distinct [] (map usedSet (rowsOf 16 k part))) × (drop found sets ≡ drop found sets₀)
 
 abbrev μ-loop : tie.MeasureT-loop
 μ-loop part count sets₀ found₀ k₀ sets found k = count - k
@@ -72,10 +72,11 @@ loop-again c =
     let has = c .before .holds-set .ensures in
     let old = used-old (args .part .now) (at .sets) (at .k) (at .found) (c .before .before .before .used .result) is (at .inv .3) has in
     let new = used-new (args .part .now) (at .sets) (at .k) (at .found) (c .before .before .before .used .result) is (at .inv .3) has in
+    let after = after-new (args .sets .now) (at .sets) (at .found) (c .before .before .before .used .result) (at .inv .4) in
     let below : at .k < args .count = omega arith in
     elim (c .if1 .came) [
-      | inl w ↦ rw (w .1, w .2) (omega arith, omega arith, simp length-set (omega arith), new (w .0 .taken) (omega arith))
-      | inr w ↦ rw (w .1, w .2) (omega arith, omega arith, omega arith, old (w .0 .left))
+      | inl w ↦ rw (w .1, w .2) (omega arith, omega arith, simp length-set (omega arith), new (w .0 .taken) (omega arith), after)
+      | inr w ↦ rw (w .1, w .2) (omega arith, omega arith, omega arith, old (w .0 .left), at .inv .4)
     ]
 
 same-length : tie.Need-same-length Inv-loop μ-loop
@@ -85,7 +86,7 @@ returns : tie.Need-returns Inv-loop μ-loop
 returns c =
     let at = c .before .loop in
     let end : at .k ≡ c .before .before .before .before .args .count = omega arith in
-    (omega arith, omega arith, at .inv .3 ∙ ap (λ (n : ℕ). distinct [] (map usedSet (rowsOf 16 n (c .before .before .before .before .args .part .now)))) end)
+    (omega arith, omega arith, at .inv .3 ∙ ap (λ (n : ℕ). distinct [] (map usedSet (rowsOf 16 n (c .before .before .before .before .args .part .now)))) end, at .inv .4)
 
 pub used-sets-spec : {M : Type 1} → statement M
 used-sets-spec =

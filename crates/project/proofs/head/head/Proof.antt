@@ -8,7 +8,7 @@ use borrow.Author.Tests.{eq-eqb, ne-eqb}
 use borrow.Author.Needs.{needs}
 use Rattle.model.proofs.Membership.{or-left}
 use Rattle.project.specs.File.{cacheBlocks, taskCount, edition}
-use Rattle.project.specs.Reading.{test2, test6}
+use Rattle.project.specs.Reading.{test2, countTest}
 use Rattle.project.proofs.Heads.{below, not-below, or-second, Past3, Past4, Past5, at2, at3, at4, at5, at6, at-none}
 use Rattle.project.proofs.head.head.Statement.{statement}
 use Rattle.project.proofs.head.head.Tie as tie
@@ -89,9 +89,9 @@ returns-5 c =
     let n = taskCount s in
     let last = not (eqb (getD s 7 0) 0) in
     let t =
-    ⊎-elim (λ w. or-left (test6 n) last (below n 1 (ltb 8 n) (w .taken)))
-    (⊎-elim (λ w. or-left (test6 n) last (not-below n 1 (w .0 .left) (w .1 .taken)))
-    (λ w. or-second (test6 n) (not-below n 1 (w .0 .left) (w .1 .left)) (w .3 .taken)))
+    ⊎-elim (λ w. or-left (countTest n) last (below n 1 (ltb 8 n) (w .taken)))
+    (⊎-elim (λ w. or-left (countTest n) last (not-below n 1 (w .0 .left) (w .1 .taken)))
+    (λ w. or-second (countTest n) (not-below n 1 (w .0 .left) (w .1 .left)) (w .3 .taken)))
     (c .before .if7 .came) in
     c .refused5 .ensures ∙ sym (at6 s (past5 (c .before .before .before)) t)
 
@@ -99,7 +99,7 @@ returns-6 : tie.Need-returns-6
 returns-6 c =
     let s = c .before .before .before .before .before .before .before .before .before .before .before .before .before .before .before .args .file .now in
     let n = taskCount s in
-    let t = or-second (test6 n) (not-below n 1 (c .before .before .before .if7 .left) (c .before .before .if8 .left)) (c .if9 .left) in
+    let t = or-second (countTest n) (not-below n 1 (c .before .before .before .if7 .left) (c .before .before .if8 .left)) (c .if9 .left) in
     sym (at-none s (past5 (c .before .before .before .before .before)) t)
 
 pub head-spec : {M : Type 1} → statement M

@@ -12,14 +12,14 @@ use Rattle.reader.proofs.tasks.check_tasks.Tie as tie
 bodies : tie.Start → List (List ℕ)
 bodies c = between (c .args .bytes .now) (c .args .ends) (c .args .count) 0
 
-first-broken-requires : tie.Need-first-broken-requires
-first-broken-requires c κs = search needs
+first-at-fault-requires : tie.Need-first-at-fault-requires
+first-at-fault-requires c κs = search needs
 
 enum-told : tie.Need-enum-told
 enum-told c = search needs
 
-first-off-path-requires : tie.Need-first-off-path-requires
-first-off-path-requires c κs = search needs
+first-at-fault-requires-2 : tie.Need-first-at-fault-requires-2
+first-at-fault-requires-2 c κs = search needs
 
 enum-told-2 : tie.Need-enum-told-2
 enum-told-2 c = search needs
@@ -30,9 +30,9 @@ first-sharing-requires c κs = search needs
 returns : tie.Need-returns
 unfolding bodies
 returns c =
-    let broken = sym (c .before .before .before .before .before .before .first-broken .ensures) ∙ c .before .before .before .before .enum-told .given .1 in
-    let off = sym (c .before .before .before .first-off-path .ensures) ∙ c .before .enum-told2 .given .1 in
-    c .first-sharing .ensures ∙ tasks-shared (bodies (c .before .before .before .before .before .before .before .before)) broken off
+    let broken = sym (c .before .before .before .before .before .before .first-at-fault .ensures) ∙ c .before .before .before .before .enum-told .given .1 in
+    let off = sym (c .before .before .before .first-at-fault2 .ensures) ∙ c .before .enum-told2 .given .1 in
+    tasks-shared (bodies (c .before .before .before .before .before .before .before .before)) broken off (c .first-sharing .ensures)
 
 enum-told-3 : tie.Need-enum-told-3
 enum-told-3 c = search needs
@@ -40,9 +40,9 @@ enum-told-3 c = search needs
 returns-2 : tie.Need-returns-2
 unfolding bodies
 returns-2 c =
-    let broken = sym (c .before .before .before .before .before .first-broken .ensures) ∙ c .before .before .before .enum-told .given .1 in
+    let broken = sym (c .before .before .before .before .before .first-at-fault .ensures) ∙ c .before .before .before .enum-told .given .1 in
     let found = c .enum-told3 .given .1 in
-    let off = sym (c .before .before .first-off-path .ensures) ∙ found in
+    let off = sym (c .before .before .first-at-fault2 .ensures) ∙ found in
     found ∙ tasks-off (bodies (c .before .before .before .before .before .before .before)) broken off
 
 enum-told-4 : tie.Need-enum-told-4
@@ -52,15 +52,15 @@ returns-3 : tie.Need-returns-3
 unfolding bodies
 returns-3 c =
     let found = c .enum-told4 .given .1 in
-    found ∙ tasks-broken (bodies (c .before .before .before .before)) (sym (c .before .before .first-broken .ensures) ∙ found)
+    found ∙ tasks-broken (bodies (c .before .before .before .before)) (sym (c .before .before .first-at-fault .ensures) ∙ found)
 
 pub check-tasks-spec : {M : Type 1} → statement M
 check-tasks-spec =
     tie.close
     (tie.spec
-    first-broken-requires
+    first-at-fault-requires
     enum-told
-    first-off-path-requires
+    first-at-fault-requires-2
     enum-told-2
     first-sharing-requires
     returns

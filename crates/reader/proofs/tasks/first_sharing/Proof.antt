@@ -8,7 +8,8 @@ use borrow.Author.Needs.{needs}
 use Rattle.model.specs.Tasks.{memoryBlocks}
 use Rattle.body.specs.Decode.{decode, taskOf}
 use Rattle.project.specs.declared.answers.Check.the-variants.{Refused as Failed}
-use Rattle.project.specs.Reading.{sharing}
+use Rattle.project.specs.Checklist.{lowest}
+use Rattle.project.specs.Reading.{sharings}
 use Rattle.project.specs.Ends.{between}
 use Rattle.seen.specs.Seen.{seenTable}
 use Rattle.seen.proofs.SeenLaws.{seen-none}
@@ -18,7 +19,7 @@ use Rattle.reader.proofs.tasks.first_sharing.Tie as tie
 
 abbrev Inv-loop : tie.InvT-loop
 Inv-loop bytes count ends table₀ j₀ table j =
-    (j ≤ count) × ((seen : List ℕ) × (table ≡ seenTable seen) × (sharing seen j (between bytes ends (count - j) j) ≡ sharing [] 0 (between bytes ends count 0)))
+    (j ≤ count) × ((seen : List ℕ) × (table ≡ seenTable seen) × (lowest 10 j (sharings seen (between bytes ends (count - j) j)) ≡ lowest 10 0 (sharings [] (between bytes ends count 0))))
 
 abbrev μ-loop : tie.MeasureT-loop
 μ-loop bytes count ends table₀ j₀ table j = count - j

@@ -11,10 +11,10 @@ use Rattle.replay.proofs.counts.disturbed.Statement.{statement}
 use Rattle.replay.proofs.counts.disturbed.Tie as tie
 
 abbrev Inv-loop : tie.InvT-loop
-Inv-loop file sheet n p long cells₀ misses₀ i₀ at₀ cells misses i at = RunLeft file sheet n cells misses i at
+Inv-loop file sheet n p long cache₀ i₀ at₀ cache i at = RunLeft file sheet n (cache .cells) (cache .misses) i at
 
 abbrev μ-loop : tie.MeasureT-loop
-μ-loop file sheet n p long cells₀ misses₀ i₀ at₀ cells misses i at = length sheet - at
+μ-loop file sheet n p long cache₀ i₀ at₀ cache i at = length sheet - at
 
 facts : (c : tie.Start Inv-loop μ-loop) → SheetFacts (c .args .file .now) (c .args .sheet .now)
 facts c = sheet-facts (c .args .file .now) (c .args .sheet .now) (c .args .n) (c .pre)
@@ -23,47 +23,47 @@ facts c = sheet-facts (c .args .file .now) (c .args .sheet .now) (c .args .n) (c
 next : (c : tie.In-loop Inv-loop μ-loop)
     → let at = c .before .loop in
     let args = c .before .before .before .before .before .before .before .before .before .args in
-    RunNext (args .file .now) (args .sheet .now) (args .n) (at .cells) (at .misses) (at .i) (at .at)
+    RunNext (args .file .now) (args .sheet .now) (args .n) (at .cache .cells) (at .cache .misses) (at .i) (at .at)
 next c =
     let at = c .before .loop in
     let start = c .before .before .before .before .before .before .before .before .before in
-    run-next (start .args .file .now) (start .args .sheet .now) (start .args .n) (start .pre) (at .cells) (at .misses) (at .i) (at .at) (at .inv) (c .loop-test .taken)
+    run-next (start .args .file .now) (start .args .sheet .now) (start .args .n) (start .pre) (at .cache .cells) (at .cache .misses) (at .i) (at .at) (at .inv) (c .loop-test .taken)
 
 -- the own blocks up to its point
 own : (c : tie.After-count3 Inv-loop μ-loop)
     → let l = c .before .before .before in
     let args = l .before .before .before .before .before .before .before .before .args in
-    OwnRun (args .file .now) (args .sheet .now) (l .loop .misses) (l .loop .i) (l .before .before .before .before .count .result) (c .count3 .result + 1)
+    OwnRun (args .file .now) (args .sheet .now) (l .loop .cache .misses) (l .loop .i) (l .before .before .before .before .count .result) (c .count3 .result + 1)
 own c =
     let l = c .before .before .before in
     let at = l .loop in
     let start = l .before .before .before .before .before .before .before .before in
-    own-run (start .args .file .now) (start .args .sheet .now) (start .args .n) (start .pre) (at .cells) (at .misses) (at .i) (at .at) (at .inv) (next (c .before .before)) (l .before .before .before .before .count .ensures .0) (c .count3 .ensures .0)
+    own-run (start .args .file .now) (start .args .sheet .now) (start .args .n) (start .pre) (at .cache .cells) (at .cache .misses) (at .i) (at .at) (at .inv) (next (c .before .before)) (l .before .before .before .before .count .ensures .0) (c .count3 .ensures .0)
 
 -- its path
 by : (c : tie.After-count5 Inv-loop μ-loop)
-    → let k = c .before .before in
-    let l = k .before .before .before .before .before .before .before .before .before in
+    → let k = c .before .before .before in
+    let l = k .before .before .before .before .before .before .before in
     let args = l .before .before .before .before .before .before .before .before .args in
     ByRun (args .file .now) (args .sheet .now) (l .loop .at) (c .count5 .result) (k .count4 .result)
 by c =
-    let k = c .before .before in
-    let l = k .before .before .before .before .before .before .before .before .before in
+    let k = c .before .before .before in
+    let l = k .before .before .before .before .before .before .before in
     let at = l .loop in
     let start = l .before .before .before .before .before .before .before .before in
-    by-run (start .args .file .now) (start .args .sheet .now) (start .args .n) (start .pre) (at .cells) (at .misses) (at .i) (at .at) (at .inv) (next (k .before .before .before .before .before .before .before .before)) (l .before .before .before .before .count .ensures .0) (k .before .before .before .before .before .before .count3 .ensures .0)
+    by-run (start .args .file .now) (start .args .sheet .now) (start .args .n) (start .pre) (at .cache .cells) (at .cache .misses) (at .i) (at .at) (at .inv) (next (k .before .before .before .before .before .before)) (l .before .before .before .before .count .ensures .0) (k .before .before .before .before .count3 .ensures .0)
     (c .count5 .ensures .0) (k .count4 .ensures .0)
 
 -- the rest of the path
 rest : (c : tie.After-loop Inv-loop μ-loop)
     → let l = c .before in
     let args = l .before .before .before .before .before .before .before .before .args in
-    OwnRun (args .file .now) (args .sheet .now) (l .loop .misses) (l .loop .i) (l .before .before .before .before .count .result) (l .before .before .count2 .result)
+    OwnRun (args .file .now) (args .sheet .now) (l .loop .cache .misses) (l .loop .i) (l .before .before .before .before .count .result) (l .before .before .count2 .result)
 rest c =
     let l = c .before in
     let at = l .loop in
     let start = l .before .before .before .before .before .before .before .before in
-    end-run (start .args .file .now) (start .args .sheet .now) (start .args .n) (start .pre) (at .cells) (at .misses) (at .i) (at .at) (at .inv) (c .loop-test .left) (l .before .before .before .before .count .ensures .0) (l .before .before .count2 .ensures .0)
+    end-run (start .args .file .now) (start .args .sheet .now) (start .args .n) (start .pre) (at .cache .cells) (at .cache .misses) (at .i) (at .at) (at .inv) (c .loop-test .left) (l .before .before .before .before .count .ensures .0) (l .before .before .count2 .ensures .0)
 
 shared-slice-read-count : tie.Need-shared-slice-read-count Inv-loop μ-loop
 shared-slice-read-count c = omega (arith, facts (c .before .before .before) .places .within)
@@ -121,7 +121,7 @@ part-run-task-end c = let f = own c in omega (arith, f .low, f .short, f .within
 
 run-task-requires : tie.Need-run-task-requires Inv-loop μ-loop
 run-task-requires c κs =
-    let k = c .before .before .before in
+    let k = c .before in
     let start = k .before .before .before .before .before .before .before .before .before .before .before in
     let f = own k in (
       start .pre .rules .file,
@@ -141,7 +141,7 @@ mul-count-2 : tie.Need-mul-count-2 Inv-loop μ-loop
 mul-count-2 c = omega arith
 
 shared-slice-read-count-4 : tie.Need-shared-slice-read-count-4 Inv-loop μ-loop
-shared-slice-read-count-4 c = omega (arith, next (c .before .before .before .before .before .before .before) .places .within)
+shared-slice-read-count-4 c = omega (arith, next (c .before .before .before .before .before) .places .within)
 
 count-requires-4 : tie.Need-count-requires-4 Inv-loop μ-loop
 count-requires-4 c κs = search needs
@@ -156,7 +156,7 @@ mul-count-3 : tie.Need-mul-count-3 Inv-loop μ-loop
 mul-count-3 c = omega arith
 
 shared-slice-read-count-5 : tie.Need-shared-slice-read-count-5 Inv-loop μ-loop
-shared-slice-read-count-5 c = omega (arith, next (c .before .before .before .before .before .before .before .before .before) .places .within)
+shared-slice-read-count-5 c = omega (arith, next (c .before .before .before .before .before .before .before .before) .places .within)
 
 count-requires-5 : tie.Need-count-requires-5 Inv-loop μ-loop
 count-requires-5 c κs = search needs
@@ -175,8 +175,8 @@ part-run-task-end-2 c = omega (arith, by c .within)
 
 run-task-requires-2 : tie.Need-run-task-requires-2 Inv-loop μ-loop
 run-task-requires-2 c κs =
-    let k = c .before .before .before in
-    let start = k .before .before .before .before .before .before .before .before .before .before .before .before .before .before .before .before .before .before .before in
+    let k = c .before in
+    let start = k .before .before .before .before .before .before .before .before .before .before .before .before .before .before .before .before .before .before in
     let f = by k in (
       start .pre .rules .file,
       f .there,
@@ -190,13 +190,13 @@ loop-less c = omega arith
 
 loop-again : tie.Need-loop-again Inv-loop μ-loop
 loop-again c =
-    let m = c .before .before .before .before in
-    let k = m .before .before in
-    let l = k .before .before .before .before .before .before .before .before .before in
+    let m = c .before .before .before in
+    let k = m .before .before .before in
+    let l = k .before .before .before .before .before .before .before in
     let at = l .loop in
     let start = l .before .before .before .before .before .before .before .before in
-    run-turn (start .args .file .now) (start .args .sheet .now) (start .args .n) (start .pre) (at .cells) (at .misses) (at .i) (at .at) (at .inv) (next (k .before .before .before .before .before .before .before .before)) (l .before .before .before .before .count .ensures .0) (k .before .before .before .before .before .before .count3 .ensures .0)
-    (m .count5 .ensures .0) (k .count4 .ensures .0) (k .before .before .run-task .ensures) (c .run-task2 .ensures)
+    run-turn (start .args .file .now) (start .args .sheet .now) (start .args .n) (start .pre) (at .cache .cells) (at .cache .misses) (at .i) (at .at) (at .inv) (next (k .before .before .before .before .before .before)) (l .before .before .before .before .count .ensures .0) (k .before .before .before .before .count3 .ensures .0)
+    (m .count5 .ensures .0) (k .count4 .ensures .0) (k .before .before .run-task .ensures) (c .before .run-task2 .ensures)
 
 add-run-task-3 : tie.Need-add-run-task-3 Inv-loop μ-loop
 add-run-task-3 c = let f = rest c in omega (arith, f .low, f .short, f .within)
@@ -218,7 +218,7 @@ part-run-task-end-3 c = let f = rest c in omega (arith, f .low, f .short, f .wit
 
 run-task-requires-3 : tie.Need-run-task-requires-3 Inv-loop μ-loop
 run-task-requires-3 c κs =
-    let k = c .before .before .before in
+    let k = c .before in
     let start = k .before .before .before .before .before .before .before .before .before in
     let f = rest k in (
       start .pre .rules .file,
@@ -230,11 +230,11 @@ run-task-requires-3 c κs =
 
 returns : tie.Need-returns Inv-loop μ-loop
 returns c =
-    let k = c .before .before .before .before in
+    let k = c .before .before in
     let l = k .before in
     let at = l .loop in
     let start = l .before .before .before .before .before .before .before .before in
-    run-end (start .args .file .now) (start .args .sheet .now) (start .args .n) (start .pre) (at .cells) (at .misses) (at .i) (at .at) (at .inv) (k .loop-test .left) (l .before .before .before .before .count .ensures .0) (l .before .before .count2 .ensures .0) (c .run-task3 .ensures)
+    run-end (start .args .file .now) (start .args .sheet .now) (start .args .n) (start .pre) (at .cache .cells) (at .cache .misses) (at .i) (at .at) (at .inv) (k .loop-test .left) (l .before .before .before .before .count .ensures .0) (l .before .before .count2 .ensures .0) (c .run-task3 .ensures)
 
 pub disturbed-spec : {M : Type 1} → statement M
 disturbed-spec =

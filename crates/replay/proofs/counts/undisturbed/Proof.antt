@@ -44,7 +44,7 @@ part-run-task-end c =
 
 run-task-requires : tie.Need-run-task-requires
 run-task-requires c κs =
-    let k = c .before .before .before in
+    let k = c .before in
     let start = k .before .before .before .before .before .before .before in
     let file = start .args .file .now in
     let sheet = start .args .sheet .now in
@@ -60,7 +60,7 @@ run-task-requires c κs =
 returns : tie.Need-returns
 unfolding nothing
 returns c =
-    let k = c .before .before .before .before in
+    let k = c .before .before in
     let start = k .before .before .before .before .before .before .before in
     let file = start .args .file .now in
     let sheet = start .args .sheet .now in

@@ -9,18 +9,18 @@ use Rattle.cache.specs.Cache.{wide}
 use Rattle.model.specs.Tasks.{Block, block}
 use Rattle.body.specs.Decode.{decode, taskOf}
 use Rattle.body.proofs.WalksParts.{BlockParts}
-use Rattle.runs.specs.Running.{kept, ownPath}
+use Rattle.runs.specs.Running.{held, ownPath}
 use Rattle.runs.proofs.RunLaws.{Walked, walked, all-at, few-bytes, path-turn, path-end, block-adds}
 use Rattle.runs.proofs.path.run_path.Statement.{statement}
 use Rattle.runs.proofs.path.run_path.Tie as tie
 
 abbrev Inv-loop : tie.InvT-loop
-Inv-loop body path n cells₀ misses₀ starts i₀ i-end cells misses i =
-    (i ≤ length path) × (misses ≤ misses₀ + 16 * i)
-    × (ownPath (wide 16 n) (taskOf (decode body)) (kept cells misses) (drop i path) ≡ ownPath (wide 16 n) (taskOf (decode body)) (kept cells₀ misses₀) path)
+Inv-loop body path n starts run₀ i₀ i-end run i =
+    (i ≤ length path) × (run .misses ≤ run₀ .misses + 16 * i)
+    × (ownPath (wide 16 n) (taskOf (decode body)) (held run) (drop i path) ≡ ownPath (wide 16 n) (taskOf (decode body)) (held run₀) path)
 
 abbrev μ-loop : tie.MeasureT-loop
-μ-loop body path n cells₀ misses₀ starts i₀ i-end cells misses i = length path - i
+μ-loop body path n starts run₀ i₀ i-end run i = length path - i
 
 abbrev Facts : tie.After-walk Inv-loop μ-loop → Type 0
 Facts c = Walked (c .before .before .before .args .body .now) (c .walk .result .starts)
@@ -65,12 +65,11 @@ array-read-at c = omega (arith, there c, facts (c .before .before .before .befor
 references-requires : tie.Need-references-requires Inv-loop μ-loop
 references-requires c κs = parts c .references-within
 
-refer-all-requires : tie.Need-refer-all-requires Inv-loop μ-loop
-refer-all-requires c κs =
-    let k = c .before .before in
-    let start = k .before .before .before .before .before .before .before .before .before in
+after-references-requires : tie.Need-after-references-requires Inv-loop μ-loop
+after-references-requires c κs =
+    let start = c .before .before .before .before .before .before .before .before .before in
     let t = taskOf (decode (start .args .body .now)) in
-    let few = few-bytes t (facts (k .before .before .before .before .before .before) .bounds) (k .before .count .result) (k .references .result .now) (refs k) in
+    let few = few-bytes t (facts (c .before .before .before .before .before .before) .bounds) (c .before .count .result) (c .references .result .now) (refs c) in
     (start .pre .2, start .pre .3, omega (arith, few))
 
 add-i : tie.Need-add-i Inv-loop μ-loop
@@ -81,7 +80,7 @@ loop-less c = omega arith
 
 loop-again : tie.Need-loop-again Inv-loop μ-loop
 loop-again c =
-    let k = c .before .before .before in
+    let k = c .before in
     let at = k .before .before .before .before .loop in
     let start = k .before .before .before .before .before .before .before .before .before in
     let t = taskOf (decode (start .args .body .now)) in
@@ -90,15 +89,15 @@ loop-again c =
     let bounds = facts (k .before .before .before .before .before .before) .bounds in
     let bytes = k .references .result .now in (
       omega arith,
-      omega (arith, block-adds w t path (at .i) (at .cells) (at .misses) bounds (k .before .count .result) bytes (refs k) (c .refer-all .ensures)),
-      path-turn w t path (at .i) (at .cells) (at .misses) bytes (omega arith) (k .before .count .ensures .0) (refs k) (c .refer-all .ensures) ∙ at .inv .2,
+      omega (arith, block-adds w t path (at .i) (at .run .cells) (at .run .misses) bounds (k .before .count .result) bytes (refs k) (c .after-references .ensures)),
+      path-turn w t path (at .i) (at .run .cells) (at .run .misses) bytes (omega arith) (k .before .count .ensures .0) (refs k) (c .after-references .ensures) ∙ at .inv .2,
     )
 
 returns : tie.Need-returns Inv-loop μ-loop
 returns c =
     let at = c .before .loop in
     let start = c .before .before .before .before .before .before in
-    path-end (wide 16 (start .args .n)) (taskOf (decode (start .args .body .now))) (start .args .path .now) (at .i) (at .cells) (at .misses) (omega arith) ∙ at .inv .2
+    path-end (wide 16 (start .args .n)) (taskOf (decode (start .args .body .now))) (start .args .path .now) (at .i) (at .run .cells) (at .run .misses) (omega arith) ∙ at .inv .2
 
 pub run-path-spec : {M : Type 1} → statement M
 run-path-spec =
@@ -114,7 +113,7 @@ run-path-spec =
     mul-at
     array-read-at
     references-requires
-    refer-all-requires
+    after-references-requires
     add-i
     loop-less
     loop-again

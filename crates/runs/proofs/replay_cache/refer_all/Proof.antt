@@ -1,76 +1,289 @@
--- `replay_cache::refer_all` meets its contract: what is left of the references gives what all give from the start. Assumes nothing.
-use mathlib.Core.Path.{_≡_, _∙_}
-use Prim.Native.Nat.{_+_, _-_, _/_, _≤_}
-use native.Mathlib.Omega.{arith}
-use borrow.Author.Needs.{needs}
-use lib.ListN.{length, drop}
-use Rattle.cache.specs.References.{numbers}
+-- `replay_cache::refer_all` meets its contract: a walk of its MIR, by hand, with a loop. In each turn the next reference is read by `reference_at`,
+-- and the cache is lent again to `refer` for a lifetime that is made for the call, and comes back.
+-- The invariant: what is left of the references, made from here, gives what all of them give from the start. Assumes nothing.
+use Rattle.runs.proofs.Walking.{tyAt, second, _≡_, refl, sym, ap, subst, _∙_, ℕ, _+_, _-_, _*_, _/_, _≤_, _<_, _^_, arith, add-one-dec, WellFounded, InvImage·wf, []}
+use Rattle.runs.proofs.Walking.{_∷_, List, Nat·lt-wfRel, Holds, ltb→lt, nltb→le, lit<, URA, fullShare, Ty, Code, named, w8, w64, tyUnit, Val, vunit, vint, vptr, hasTy}
+use Rattle.runs.proofs.Walking.{WT, SProp, ent, sep, ex, guard, exE, snd∗, id⊢, Lft, Share, GName, Fml, ftrue, fat, froom, fdies, flft, fres, Memory, Routine, Heap}
+use Rattle.runs.proofs.Walking.{Out, Env, Calls, Loops, Wp, WpFn, Tables, afterSeq, afterBlock, afterTurn, atReturn, Atoms, sem, Fun, fact, givenOf, tables, tablesOf}
+use Rattle.runs.proofs.Walking.{Given, Item, ‵, raw, given, _⊛_, ⋆, some, later, runs, anyQ, atRet, Sq, _$_, _∵_, !, qed, by, move, keep, drop, use1, use2, use3, split}
+use Rattle.runs.proofs.Walking.{join, pick, learn, fsplit, fjoin, feqI, feqL, suffices, frame, await, updating, at-once, show, check, done, look, init, store, forget}
+use Rattle.runs.proofs.Walking.{stop, hop, fld, from, load, lit, addr, unit-lit, of-opd, bin, assigns, assigns-last, and-then, no-more, land, first, skips, jumps}
+use Rattle.runs.proofs.Walking.{blocks, branches, returns, enter, alloc1, alloc0, params1, pass1, pass0, free1, free0, exec, Below, again, loops, whole, sub, look-in}
+use Rattle.runs.proofs.Walking.{lft-new, lft-end, FmC, fmOf, WpFn-mono, owns, Is, shows, Nothing, uint-vals, uint-tells, uint-makes, u8, usize, RefT, MutRef, ptr-vals}
+use Rattle.runs.proofs.Walking.{mut-tells, sliceVal, ShrSlice, slice-vals, shr-slice-tells, shr-slice-lawful, shr-slice-copy, LentAgain, lends-again, comes-back, plain}
+use Rattle.runs.proofs.Walking.{only, owned, facts, heard, nothing, Contract, Triple, calls-at, onEntry, Meets, tripleOf, entered, cited, says, needs, Stays, stay-ref}
+use Rattle.runs.proofs.Walking.{stay-none, stay-none-slice, walkOf, AllGo, goes-ref, goes-none, goes-none-slice, Walks, ends-at, walked, walk-meets, ensured, lasts}
+use Rattle.runs.proofs.Walking.{yes}
+use lib.ListN.{length, drop as dropN}
+use denote.Struct.Laws as LL
 use Rattle.cache.specs.Cache.{wide}
+use Rattle.cache.specs.References.{numberAt, numbers}
+use Rattle.cache.specs.declared.blocks.MemoryBlock.{MemoryBlock}
+use Rattle.cache.proofs.blocks.MemoryBlock as B
+use Rattle.cache.proofs.blocks.MemoryBlock.Laws as B′
 use Rattle.model.specs.Runs.{ownReferences}
-use Rattle.runs.specs.Running.{kept}
+use Rattle.runs.specs.Running.{held}
+use Rattle.runs.specs.declared.replay_cache.ReplayCache.{ReplayCache}
 use Rattle.runs.proofs.CacheLaws.{references-turn, references-end, reference-adds}
-use Rattle.runs.proofs.replay_cache.refer_all.Statement.{statement}
-use Rattle.runs.proofs.replay_cache.refer_all.Tie as tie
+use Rattle.runs.proofs.LentCache.{R, at-cell, After, AfterAll}
+use Rattle.runs.proofs.replay_cache.refer as refer
+use Rattle.runs.proofs.replay_cache.refer.Symbol as refer-def
+use Rattle.runs.proofs.replay_cache.refer.Symbol.{name as #runs·replay-cache·refer}
+use Rattle.runs.proofs.replay_cache.refer.Met as refer-thm
+use Rattle.runs.proofs.replay_cache.reference_at as reference-at
+use Rattle.runs.proofs.replay_cache.reference_at.Symbol as reference-at-def
+use Rattle.runs.proofs.replay_cache.reference_at.Symbol.{name as #runs·replay-cache·reference-at}
+use Rattle.runs.proofs.replay_cache.reference_at.Met as reference-at-thm
+use Rattle.runs.proofs.replay_cache.refer_all as own
+use Rattle.runs.proofs.replay_cache.refer_all.Key.{name as #runs·replay-cache·refer-all}
+use Rattle.runs.proofs.replay_cache.refer_all.Statement as stated
+use Rattle.runs.proofs.replay_cache.refer_all.Code as code
 
-abbrev Inv-loop : tie.InvT-loop
-Inv-loop references n cells₀ misses₀ i₀ i-end cells misses i =
-    (i ≤ length references / 2) × (misses ≤ misses₀ + i)
-    × (ownReferences (wide 16 n) (kept cells misses) (drop i (numbers references)) ≡ ownReferences (wide 16 n) (kept cells₀ misses₀) (numbers references))
+abbrev stayed : Stays (own.ended .signature .params) (own.ended .kept)
+stayed = (stay-none-slice (0 ∷ []) tt (plain (λ _. u8)) yes, (stay-none (λ _. u8) yes, (stay-ref (1 ∷ []) tt (plain (λ _. R)), tt)))
 
-abbrev μ-loop : tie.MeasureT-loop
-μ-loop references n cells₀ misses₀ i₀ i-end cells misses i = length references / 2 - i
+-- the MIR type of local j
+abbrev ty : ℕ → Ty
+ty j = tyAt (code.function .locals) j
 
-loop-holds : tie.Need-loop-holds Inv-loop μ-loop
-loop-holds c = search needs
+abbrev turn : Code
+turn = code.Mir.turn-1
 
-mul-number-at : tie.Need-mul-number-at Inv-loop μ-loop
-mul-number-at c = search needs
+abbrev rest : Code
+rest = code.Mir.t-5
 
-number-at-requires : tie.Need-number-at-requires Inv-loop μ-loop
-number-at-requires c κs = search needs
+-- the contracts that the proof cites
+abbrev Refer : {M : Type 1} (𝓤 : URA M) (H : Heap 𝓤) (A : Atoms 𝓤) (at-mem : Memory → SProp 𝓤) (run : Routine → Fun 𝓤) → Contract 𝓤
+Refer 𝓤 H A at-mem run = tripleOf 𝓤 H A refer.signature (refer.spec 𝓤 H A at-mem run)
 
-new-requires : tie.Need-new-requires Inv-loop μ-loop
-new-requires c κs = search needs
+abbrev ReferenceAt : {M : Type 1} (𝓤 : URA M) (H : Heap 𝓤) (A : Atoms 𝓤) (at-mem : Memory → SProp 𝓤) (run : Routine → Fun 𝓤) → Contract 𝓤
+ReferenceAt 𝓤 H A at-mem run = tripleOf 𝓤 H A reference-at.signature (reference-at.spec 𝓤 H A at-mem run)
 
-refer-requires : tie.Need-refer-requires Inv-loop μ-loop
-refer-requires c κs = search needs
+module _ {M : Type 1} (𝓤 : URA M) (H : Heap 𝓤) (A : Atoms 𝓤) (W : Given 𝓤 H A) (at-mem : Memory → SProp 𝓤) (run : Routine → Fun 𝓤)
+    (κ κ′ : Lft) (q q′ : Share) (s : RefT (List ℕ)) (n b o : ℕ) (γ : GName) (h : ReplayCache) (s-is : Is (ShrSlice (named 0) κ u8) s (sliceVal (s .ptr) (length (s .now)) ∷ [])) (n-fits : n < 2 ^ 8)
+    (pre : (0 < n) × (n ≤ 16) × (h .misses + length (s .now) / 2 < 2 ^ 32)) where
+  abbrev xs : List ℕ
+  xs = s .now
 
-add-i : tie.Need-add-i Inv-loop μ-loop
-add-i c = search needs
+  abbrev N : ℕ
+  N = length xs / 2
 
-loop-less : tie.Need-loop-less Inv-loop μ-loop
-loop-less c = search needs
+  abbrev v : Val
+  v = sliceVal (s .ptr) (length xs)
 
-loop-again : tie.Need-loop-again Inv-loop μ-loop
-loop-again c =
-    let k = c .before in
-    let at = k .before .before .before .before .before .loop in
-    let args = k .before .before .before .before .before .before .before .args in
-    let w = wide 16 (args .n) in
-    let m = k .new .ensures ∙ k .before .number-at .ensures in (
-      omega arith,
-      omega (arith, reference-adds w (k .new .result .0) (at .cells) (at .misses) (c .refer .ensures)),
-      references-turn w (args .references .now) (at .i) (at .cells) (at .misses) (omega arith) m (c .refer .ensures) ∙ at .inv .2,
-    )
+  abbrev Own : Fml
+  Own = ShrSlice (named 0) κ u8 .own s (v ∷ [])
 
-returns : tie.Need-returns Inv-loop μ-loop
-returns c =
-    let at = c .before .loop in
-    let args = c .before .before .before .args in
-    references-end (wide 16 (args .n)) (args .references .now) (at .i) (at .cells) (at .misses) (omega arith) ∙ at .inv .2
+  abbrev Lent : ReplayCache → Fml
+  Lent k = MutRef (named 1) κ′ R .own (at-cell b o γ k) (vptr b o ∷ [])
 
-pub refer-all-spec : {M : Type 1} → statement M
-refer-all-spec =
-    tie.close
-    (tie.spec
-    Inv-loop
-    μ-loop
-    loop-holds
-    mul-number-at
-    number-at-requires
-    new-requires
-    refer-requires
-    add-i
-    loop-less
-    loop-again
-    returns)
+  abbrev x : RefT (List ℕ) × (ℕ × (RefT ReplayCache × Unit {0}))
+  x = (s, (n, (at-cell b o γ h, tt)))
+
+  abbrev at : List Val × (List Val × (List Val × Unit {0}))
+  at = (v ∷ [], (vint w8 n ∷ [], (vptr b o ∷ [], tt)))
+
+  abbrev Post : Val → SProp 𝓤
+  Post = walkOf 𝓤 H A own.ended stayed (own.clauses 𝓤 H A at-mem run) .post (((κ, (κ′, tt)), (q, (q′, tt)), tt, x, at), tt)
+
+  exits : (k : ReplayCache) → AfterAll h xs n k → ent 𝓤 (⋆ 𝓤 H A (‵ (Lent k) ∷ ‵ (flft κ′ q′) ∷ ‵ Own ∷ ‵ (flft κ q) ∷ [])) (Post vunit)
+  exits k e =
+      qed W (‵ (Lent k) ∷ ‵ (flft κ′ q′) ∷ ‵ Own ∷ ‵ (flft κ q) ∷ []) ∵
+      suffices ! _ (ends-at 𝓤 H A own.ended stayed (own.clauses 𝓤 H A at-mem run) W (((κ, (κ′, tt)), (q, (q′, tt)), tt, x, at), tt) vunit tt (tt, (tt, (k, tt))) (tt, (tt, (tt, tt)))) $
+      says ! e $
+      nothing ! $ move ! (2 ∷ 0 ∷ []) $ join ! $ move ! (3 ∷ 0 ∷ []) $ join ! $ frame ! $
+      nothing ! $ move ! (1 ∷ 0 ∷ []) $ fjoin ! $ owned ! u8 (Is u8) (uint-makes 𝓤 H A W w8) n _ (refl, n-fits) $ fjoin ! $ move ! (1 ∷ 0 ∷ []) $ fjoin ! $ frame ! $
+      feqI ! (List Val) (vunit ∷ []) (vunit ∷ []) refl $ done !
+
+  -- ---- the call of `reference_at`
+  abbrev to-at : ℕ → ReferenceAt 𝓤 H A at-mem run .Ghost
+  to-at i = (((κ, tt), (q, tt), tt, (s, (i, tt)), (v ∷ [], (vint w64 i ∷ [], tt))), tt)
+
+  goes-at : (i : ℕ) → i < 2 ^ 64 → i < N → ent 𝓤 (sep 𝓤 (sem 𝓤 H A Own) (A .lft κ q)) (ReferenceAt 𝓤 H A at-mem run .pre (to-at i))
+  goes-at i fits less =
+      qed W (‵ Own ∷ ‵ (flft κ q) ∷ []) ∵ says ! less $ nothing ! $ move ! (2 ∷ 0 ∷ []) $ join ! $ frame ! $
+      nothing ! $ owned ! usize (Is usize) (uint-makes 𝓤 H A W w64) i _ (refl, fits) $ fjoin ! $ move ! (1 ∷ 0 ∷ []) $ fjoin ! $ done !
+
+  said-at : (i : ℕ) (m : MemoryBlock) → ent 𝓤 (ensured 𝓤 H A reference-at.ended (reference-at.clauses 𝓤 H A at-mem run) (κ, tt) (s, (i, tt)) tt m) (fact 𝓤 (m .0 ≡ numberAt xs (2 * i)))
+  said-at i m = exE 𝓤 _ (λ ws. snd∗ 𝓤 (sem 𝓤 H A (lasts reference-at.ended (κ, tt) (s, (i, tt)) ws)) (fact 𝓤 (m .0 ≡ numberAt xs (2 * i))))
+
+  -- ---- the call of `refer`: the cache k, lent for the lifetime ν under the name δ; u is the machine value of m
+  abbrev to : ReplayCache → MemoryBlock → Val → ℕ → GName → Refer 𝓤 H A at-mem run .Ghost
+  to k m u ν δ = (((ν ∷ [], tt), (fullShare, tt), tt, (at-cell b o δ k, (m, (n, tt))), (vptr b o ∷ [], (u ∷ [], (vint w8 n ∷ [], tt)))), tt)
+
+  goes : (k : ReplayCache) (m : MemoryBlock) (u : Val) (ν : ℕ) (δ : GName) → Is B.the-row m (u ∷ []) → k .misses + 1 < 2 ^ 32
+      → ent 𝓤 (sep 𝓤 (A .lft (ν ∷ []) fullShare) (sem 𝓤 H A (MutRef (named 0) (ν ∷ []) R .own (at-cell b o δ k) (vptr b o ∷ [])))) (Refer 𝓤 H A at-mem run .pre (to k m u ν δ))
+  goes k m u ν δ m-is few =
+      qed W (‵ (flft (ν ∷ []) fullShare) ∷ ‵ (MutRef (named 0) (ν ∷ []) R .own (at-cell b o δ k) (vptr b o ∷ [])) ∷ []) ∵ says ! (pre .0, pre .1, few) $ nothing ! $
+      move ! (1 ∷ 0 ∷ []) $ join ! $ frame ! $
+      nothing ! $ owned ! u8 (Is u8) (uint-makes 𝓤 H A W w8) n _ (refl, n-fits) $ fjoin ! $
+      owned ! B.the-row (Is B.the-row) (LL.makes B.the-type B′.the-plain 𝓤 H A) m _ m-is $ fjoin ! $ move ! (1 ∷ 0 ∷ []) $ fjoin ! $ done !
+
+  -- the result is (), the token is back, and the last value is the cache after the reference
+  abbrev Back : ReplayCache → MemoryBlock → ℕ → GName → Val → ReplayCache → SProp 𝓤
+  Back k m ν δ z r = guard 𝓤 ((z ≡ vunit) × After k m n r) (sep 𝓤 (A .lft (ν ∷ []) fullShare) (A .res δ (R .coded .code r)))
+
+  gives : (k : ReplayCache) (m : MemoryBlock) (u : Val) (ν : ℕ) (δ : GName) (z : Val) → ent 𝓤 (Refer 𝓤 H A at-mem run .post (to k m u ν δ) z) (H .⇛ (ex 𝓤 (Back k m ν δ z)))
+  gives k m u ν δ z =
+      qed W (raw (Refer 𝓤 H A at-mem run .post (to k m u ν δ) z) ∷ []) ∵ updating ! $
+      use1 W (later (some (λ (y : Unit {0}). ((‵ (flft (ν ∷ []) fullShare) ⊛ ‵ ftrue) ⊛ ‵ (Nothing .own y (z ∷ []))) ⊛ raw (ensured 𝓤 H A refer.ended (refer.clauses 𝓤 H A at-mem run) (ν ∷ [], tt) (at-cell b o δ k, (m, (n, tt))) tt y))))
+      (id⊢ 𝓤 _) $
+      await ! tt $ pick ! (λ y.
+      split ! $ move ! (1 ∷ []) $
+      use1 W (some (λ (ws : ReplayCache × (Unit {0} × (Unit {0} × Unit {0}))). ‵ (lasts refer.ended (ν ∷ [], tt) (at-cell b o δ k, (m, (n, tt))) ws) ⊛ raw (fact 𝓤 (After k m n (ws .0))))) (id⊢ 𝓤 _) $
+      pick ! (λ ws.
+      split ! $ move ! (1 ∷ []) $ heard ! (After k m n (ws .0)) (λ e. fsplit ! $ move ! (2 ∷ []) $ split ! $ move ! (1 ∷ []) $ feqL ! (λ is. split ! $
+      at-once ! $ show ! (Back k m ν δ z) (ws .0) $ check ! (ap only is, e) $ keep ! (0 ∷ 2 ∷ []) $ done !))))
+
+  -- ---- the loop: its state, and the order in which the state falls
+  abbrev Facts : ℕ → ReplayCache → Type 0
+  Facts i k =
+      (i ≤ N) × (k .misses ≤ h .misses + i)
+      × (ownReferences (wide 16 n) (held k) (dropN i (numbers xs)) ≡ ownReferences (wide 16 n) (held h) (numbers xs))
+
+  abbrev State : Type 0
+  State = (i : ℕ) × ((k : ReplayCache) × Facts i k)
+
+  abbrev Nearer : State → State → Type 0
+  Nearer t u = N - t .0 < N - u .0
+
+  Nearer-wf : WellFounded Nearer
+  Nearer-wf = InvImage·wf (λ (t : State). N - t .0) (Nat·lt-wfRel .wf)
+
+  fits : (t : State) → t .0 < 2 ^ 64
+  fits t =
+      let a : length xs < 2 ^ 64 = s-is .0 .1 .0 in
+      omega (arith, t .1 .1 .0)
+
+  abbrev next : (t : State) → t .0 < N → (m : MemoryBlock) → m .0 ≡ numberAt xs (2 * t .0) → (r : ReplayCache) → After (t .1 .0) m n r → State
+  next t less m em r e = (
+    t .0 + 1,
+    (
+      r,
+      (
+        omega arith,
+        omega (arith, t .1 .1 .1, reference-adds (wide 16 n) (m .0) (t .1 .0 .cells) (t .1 .0 .misses) e),
+        references-turn (wide 16 n) xs (t .0) (t .1 .0 .cells) (t .1 .0 .misses) less em e ∙ t .1 .1 .2,
+      ),
+    ),
+  )
+
+  few : (t : State) → t .0 < N → t .1 .0 .misses + 1 < 2 ^ 32
+  few t less = omega (arith, t .1 .1 .1, pre .2)
+
+  module _ (𝓣 : Tables 𝓤 H) (known-at : Triple 𝓤 (𝓣 .C #runs·replay-cache·reference-at) (ReferenceAt 𝓤 H A at-mem run))
+      (known : Triple 𝓤 (𝓣 .C #runs·replay-cache·refer) (Refer 𝓤 H A at-mem run)) where
+    abbrev C : Calls 𝓤 H
+    C = 𝓣 .C
+
+    abbrev Λ : Loops 𝓤 H
+    Λ = 𝓣 .Λ
+
+    fm : FmC 𝓤 H (W .laws) C
+    fm = fmOf 𝓤 H (W .laws) 𝓣
+
+    module _ (l₀ l₁ l₂ l₃ l₄ l₅ l₆ l₇ l₈ l₉ l₁₀ : ℕ) where
+      abbrev En : Env 𝓤 H
+      En = (ty 0, l₀) ∷ (ty 1, l₁) ∷ (ty 2, l₂) ∷ (ty 3, l₃) ∷ (ty 4, l₄) ∷ (ty 5, l₅) ∷ (ty 6, l₆) ∷ (ty 7, l₇) ∷ (ty 8, l₈) ∷ (ty 9, l₉) ∷ (ty 10, l₁₀) ∷ []
+
+      -- local j stands at 4 + 2 * (10 - j)
+      abbrev At : State → List (Item 𝓤)
+      At t =
+          ‵ (Lent (t .1 .0)) ∷ ‵ (flft κ′ q′) ∷ ‵ Own ∷ ‵ (flft κ q)
+          ∷ ‵ (froom (ty 10) l₁₀ 0) ∷ ‵ (fdies (ty 10) l₁₀) ∷ ‵ (froom (ty 9) l₉ 0) ∷ ‵ (fdies (ty 9) l₉) ∷ ‵ (froom (ty 8) l₈ 0) ∷ ‵ (fdies (ty 8) l₈) ∷ ‵ (froom (ty 7) l₇ 0) ∷ ‵ (fdies (ty 7) l₇)
+          ∷ ‵ (fat fullShare (ty 6) l₆ 0 (vint w64 (length xs))) ∷ ‵ (fdies (ty 6) l₆) ∷ ‵ (fat fullShare (ty 5) l₅ 0 (vint w64 N)) ∷ ‵ (fdies (ty 5) l₅) ∷ ‵ (fat fullShare (ty 4) l₄ 0 (vint w64 (t .0))) ∷ ‵ (fdies (ty 4) l₄)
+          ∷ ‵ (fat fullShare (ty 3) l₃ 0 (vptr b o)) ∷ ‵ (fdies (ty 3) l₃) ∷ ‵ (fat fullShare (ty 2) l₂ 0 (vint w8 n)) ∷ ‵ (fdies (ty 2) l₂) ∷ ‵ (fat fullShare (ty 1) l₁ 0 v) ∷ ‵ (fdies (ty 1) l₁) ∷ ‵ (froom (ty 0) l₀ 0) ∷ ‵ (fdies (ty 0) l₀) ∷ []
+
+      abbrev Turned : State → Out → SProp 𝓤
+      Turned t = afterTurn 𝓤 H (Below 𝓤 H A Nearer At t) (afterBlock 𝓤 H (afterSeq 𝓤 H (Wp 𝓤 H C Λ En rest (atReturn 𝓤 H En Post)) (atReturn 𝓤 H En Post)))
+
+      turns : (t : State) → Sq W (At t) (runs C Λ En turn (anyQ (Turned t)))
+      unfolding afterTurn
+      turns t =
+          assigns ! (bin ! (load ! (from ! (stop !)) (look ! 16 refl)) (load ! (from ! (stop !)) (look ! 14 refl)) tt) (from ! (stop !)) (init ! 10 refl (tt, tt)) $
+          first ! $ branches ! (load ! (from ! (stop !)) (look ! 10 refl))
+          (λ less. skips ! $ exec ! C Λ En (second (second turn)) (anyQ (Turned t)) $
+          assigns ! (addr ! (from ! (hop ! (look ! 18 refl) (stop !)))) (from ! (stop !)) (init ! 6 refl (tt, tt)) $
+          -- the next reference
+          move ! (2 ∷ []) $ use1 W (‵ Own ⊛ ‵ Own) (shr-slice-copy 𝓤 H A W (named 0) κ u8 .twice s (v ∷ [])) $ split ! $ move ! (0 ∷ 4 ∷ []) $
+          use2 W (raw (ReferenceAt 𝓤 H A at-mem run .pre (to-at (t .0)))) (goes-at (t .0) (fits t) (ltb→lt (t .0) N less)) $
+          -- [what it asks; what the slice owns; the reference; its token; _10; …]
+          calls-at ! fm (ReferenceAt 𝓤 H A at-mem run) known-at (to-at (t .0))
+          (and-then ! (load ! (from ! (stop !)) (look ! 22 refl)) (and-then ! (load ! (from ! (stop !)) (look ! 16 refl)) (no-more !))) (λ u.
+          use1 W (later (some (λ (m : MemoryBlock). ((‵ (flft κ q) ⊛ ‵ ftrue) ⊛ ‵ (B.the-row .own m (u ∷ []))) ⊛ raw (ensured 𝓤 H A reference-at.ended (reference-at.clauses 𝓤 H A at-mem run) (κ, tt) (s, (t .0, tt)) tt m))))
+          (id⊢ 𝓤 _) $
+          await ! tt $ pick ! (λ m.
+          split ! $ move ! (1 ∷ []) $ use1 W (raw (fact 𝓤 (m .0 ≡ numberAt xs (2 * t .0)))) (said-at (t .0) m) $ heard ! (m .0 ≡ numberAt xs (2 * t .0)) (λ em. split ! $
+          move ! (1 ∷ []) $
+          facts ! B.the-row (Is B.the-row) (shows 𝓤 H A B.the-row) m (u ∷ []) (λ m-is. split ! $ move ! (1 ∷ []) $ drop ! $
+          -- [the slice's token; what the slice owns; the reference; its token; _10; …]
+          land ! (from ! (stop !)) (init ! 4 refl (LL.lawful B.the-type B′.the-laws 𝓤 H A W .typed m _ m-is .0)) $
+          -- the cache is lent again
+          lft-new ! tt (λ ν. move ! (3 ∷ 4 ∷ []) $
+          use2 W (later (some (λ (δ : GName). ‵ (MutRef (named 0) (ν ∷ []) R .own (at-cell b o δ (t .1 .0)) (vptr b o ∷ [])) ⊛ ‵ (LentAgain R κ′ (ν ∷ []) q′ γ b o δ (t .1 .0)))))
+          (lends-again 𝓤 H A W R (named 1) κ′ (ν ∷ []) q′ γ b o (named 0) (t .1 .0)) $
+          await ! tt $ pick ! (λ δ. split ! $
+          move ! (2 ∷ 0 ∷ []) $ use2 W (raw (Refer 𝓤 H A at-mem run .pre (to (t .1 .0) m u ν δ))) (goes (t .1 .0) m u ν δ m-is (few t (ltb→lt (t .0) N less))) $
+          calls-at ! fm (Refer 𝓤 H A at-mem run) known (to (t .1 .0) m u ν δ)
+          (and-then ! (load ! (from ! (stop !)) (look ! 6 refl)) (and-then ! (load ! (from ! (stop !)) (look ! 4 refl)) (and-then ! (load ! (from ! (stop !)) (look ! 20 refl)) (no-more !)))) (λ z.
+          use1 W (later (some (λ (r : ReplayCache). given ((z ≡ vunit) × After (t .1 .0) m n r) (‵ (flft (ν ∷ []) fullShare) ⊛ ‵ (fres δ (R .coded .code r)))))) (gives (t .1 .0) m u ν δ z) $
+          await ! tt $ pick ! (λ r. learn ! (λ e. split ! $
+          -- [the call's token; the last value; what is lent again; the slice's token; what the slice owns; _10; …]
+          land ! (from ! (stop !)) (init ! 9 refl (subst (λ (y : Val). Holds (hasTy tyUnit y) × WT y) (sym (e .0)) (tt, tt))) $
+          lft-end ! tt $ move ! (0 ∷ 2 ∷ 1 ∷ []) $ use3 W (later (‵ (Lent r) ⊛ ‵ (flft κ′ q′))) (comes-back 𝓤 H A W R (named 1) κ′ (ν ∷ []) q′ γ b o δ (t .1 .0) r) $
+          await ! tt $ split ! $ move ! (0 ∷ 1 ∷ 3 ∷ 2 ∷ []) $
+          assigns-last ! (bin ! (load ! (from ! (stop !)) (look ! 16 refl)) (lit ! tt) (record { fits = fits (next t (ltb→lt (t .0) N less) m em r (e .1)) }))
+          (from ! (stop !)) (store ! 16 refl (tt, record { fits = fits (next t (ltb→lt (t .0) N less) m em r (e .1)) })) $
+          forget ! 4 refl $ forget ! 6 refl $ forget ! 8 refl $ forget ! 10 refl $
+          again ! Nearer At t (next t (ltb→lt (t .0) N less) m em r (e .1)) (add-one-dec N (t .0) (ltb→lt (t .0) N less))))))))))))
+          (λ over. jumps ! $ exec ! C Λ En rest (atRet En Post) $
+          assigns ! (of-opd ! (unit-lit !)) (from ! (stop !)) (init ! 24 refl (tt, tt)) $
+          returns ! (look ! 24 refl) $ forget ! 10 refl $ forget ! 12 refl $ forget ! 14 refl $ forget ! 16 refl $ forget ! 18 refl $ forget ! 20 refl $ forget ! 22 refl $
+          forget ! 24 refl $
+          move ! (24 ∷ 25 ∷ []) $ free1 ! $ move ! (22 ∷ 23 ∷ []) $ free1 ! $ move ! (20 ∷ 21 ∷ []) $ free1 ! $ move ! (18 ∷ 19 ∷ []) $ free1 ! $ move ! (16 ∷ 17 ∷ []) $
+          free1 ! $ move ! (14 ∷ 15 ∷ []) $ free1 ! $ move ! (12 ∷ 13 ∷ []) $ free1 ! $ move ! (10 ∷ 11 ∷ []) $ free1 ! $ move ! (8 ∷ 9 ∷ []) $ free1 ! $ move ! (6 ∷ 7 ∷ []) $
+          free1 ! $ move ! (4 ∷ 5 ∷ []) $ free1 ! $ free0 ! $
+          keep ! (0 ∷ 1 ∷ 2 ∷ 3 ∷ []) $ by ! (exits (t .1 .0) (references-end (wide 16 n) xs (t .0) (t .1 .0 .cells) (t .1 .0 .misses) (nltb→le (t .0) N over) ∙ t .1 .1 .2)))
+
+    abbrev start : State
+    start = (0, (h, (omega arith, omega arith, refl)))
+
+    walk : ent 𝓤 (onEntry 𝓤 H A own.signature (κ, (κ′, tt)) (q, (q′, tt)) x at) (WpFn 𝓤 H C Λ code.function (v ∷ vint w8 n ∷ vptr b o ∷ []) Post)
+    walk =
+        qed W ((‵ (flft κ q) ⊛ ‵ (flft κ′ q′) ⊛ ‵ ftrue) ∷ ‵ (owns (ShrSlice (named 0) κ u8 ∷ u8 ∷ MutRef (named 1) κ′ R ∷ []) x at) ∷ []) ∵
+        enter ! C Λ code.function (v ∷ vint w8 n ∷ vptr b o ∷ []) _ $
+        alloc1 ! (λ l₀. alloc1 ! (λ l₁. alloc1 ! (λ l₂. alloc1 ! (λ l₃. alloc1 ! (λ l₄. alloc1 ! (λ l₅. alloc1 ! (λ l₆. alloc1 ! (λ l₇. alloc1 ! (λ l₈. alloc1 ! (λ l₉. alloc1 ! (λ l₁₀. alloc0 ! $
+        params1 ! $
+        pass1 ! (init ! 18 refl (shr-slice-lawful 𝓤 H A W (named 0) κ u8 .typed s (v ∷ []) s-is .0)) $ pass1 ! (init ! 16 refl (tt, record { fits = n-fits })) $
+        pass1 ! (init ! 14 refl (tt, tt)) $ pass0 ! $
+        -- local j at 2 * (10 - j); then the tokens, and what the parameters own
+        move ! (23 ∷ []) $ fsplit ! $ move ! (1 ∷ []) $ fsplit ! $ drop ! $ fsplit ! $ move ! (25 ∷ []) $ split ! $ move ! (1 ∷ []) $ split ! $
+        -- [the cache's token; true; the slice's token; what the cache owns; true; what the slice owns; _10; …]
+        move ! (3 ∷ 0 ∷ 5 ∷ 2 ∷ []) $ move ! (4 ∷ []) $ drop ! $ move ! (4 ∷ []) $ drop ! $
+        assigns ! (of-opd ! (lit ! tt)) (from ! (stop !)) (init ! 16 refl (tt, record { fits = lit< tt })) $
+        assigns ! (of-opd ! (load ! (from ! (fld ! refl (stop !))) (look-in ! 22 (sub ! 1 refl (whole !))))) (from ! (stop !)) (init ! 12 refl (tt, record { fits = s-is .0 .1 .0 })) $
+        assigns ! (bin ! (load ! (from ! (stop !)) (look ! 12 refl)) (lit ! tt) (omega arith)) (from ! (stop !)) (init ! 14 refl (tt, record { fits = omega arith })) $
+        first ! $ blocks ! $ loops ! 𝓣 Nearer Nearer-wf (At l₀ l₁ l₂ l₃ l₄ l₅ l₆ l₇ l₈ l₉ l₁₀) (turns l₀ l₁ l₂ l₃ l₄ l₅ l₆ l₇ l₈ l₉ l₁₀) start)))))))))))
+
+module _ {M : Type 1} (𝓤 : URA M) (H : Heap 𝓤) (A : Atoms 𝓤) (W : Given 𝓤 H A) (at-mem : Memory → SProp 𝓤) (run : Routine → Fun 𝓤) (𝓣 : Tables 𝓤 H)
+    (known-at : Triple 𝓤 (𝓣 .C #runs·replay-cache·reference-at) (ReferenceAt 𝓤 H A at-mem run)) (known : Triple 𝓤 (𝓣 .C #runs·replay-cache·refer) (Refer 𝓤 H A at-mem run)) where
+  refer-all-walks : Walks 𝓤 H A own.ended stayed (WpFn 𝓤 H (𝓣 .C) (𝓣 .Λ) code.function) (own.clauses 𝓤 H A at-mem run)
+  refer-all-walks = walked 𝓤 H A own.ended stayed (own.clauses 𝓤 H A at-mem run) (WpFn 𝓤 H (𝓣 .C) (𝓣 .Λ) code.function)
+      (λ κs. (slice-vals, (uint-vals w8, (ptr-vals, tt)))) (λ κs. (shr-slice-tells (named 0) (κs .0) u8, (uint-tells w8, (mut-tells (named 1) (κs .1 .0) R, tt))))
+      (λ κs qs bounds a g are. needs 𝓤 ((0 < a .1 .0) × (a .1 .0 ≤ 16) × (a .1 .1 .0 .now .misses + length (a .0 .now) / 2 < 2 ^ 32)) _ (λ pre.
+      walk 𝓤 H A W at-mem run (κs .0) (κs .1 .0) (qs .0) (qs .1 .0) (a .0) (a .1 .0) (a .1 .1 .0 .ptr .0) (a .1 .1 .0 .ptr .1) (a .1 .1 .0 .name) (a .1 .1 .0 .now) (are .0) (are .1 .0 .1) pre 𝓣 known-at known))
+
+  all-go : AllGo 𝓤 H A W 2 (own.signature .params) (own.ended .kept) stayed
+  all-go = (goes-none-slice 𝓤 H A W 2 (0 ∷ []) tt (plain (λ _. u8)) yes, (goes-none 𝓤 H A W 2 (λ _. u8) yes (λ κs x f. refl), (goes-ref 𝓤 H A W 2 1 tt (plain (λ _. R)), tt)))
+
+  refer-all-meets : Meets 𝓤 H A own.signature (WpFn 𝓤 H (𝓣 .C) (𝓣 .Λ) code.function) (own.spec 𝓤 H A at-mem run)
+  refer-all-meets = walk-meets 𝓤 H A own.ended stayed W all-go (own.clauses 𝓤 H A at-mem run) (WpFn 𝓤 H (𝓣 .C) (𝓣 .Λ) code.function) (WpFn-mono 𝓤 H (W .laws) 𝓣 code.function) refer-all-walks
+
+pub refer-all-spec : {M : Type 1} → stated.statement M
+unfolding code.routine tablesOf
+refer-all-spec 𝓤 H 𝓜 𝓖 𝓡 =
+    entered 𝓤 H (tripleOf 𝓤 H (𝓖 .A) own.signature (own.spec 𝓤 H (𝓖 .A) (𝓜 .mem) (𝓡 .run)))
+    (tables 𝓤 H 𝓜 𝓡 code.env .C) (tables 𝓤 H 𝓜 𝓡 code.env .Λ) #runs·replay-cache·refer-all code.function (code.unfolded 𝓤 H 𝓜 𝓡)
+    (refer-all-meets 𝓤 H (𝓖 .A) (givenOf 𝓤 H 𝓜 𝓖) (𝓜 .mem) (𝓡 .run) (tablesOf 𝓤 H 𝓜 (tables 𝓤 H 𝓜 𝓡 code.env))
+    (cited 𝓤 H (ReferenceAt 𝓤 H (𝓖 .A) (𝓜 .mem) (𝓡 .run)) 𝓜 𝓡 code.env #runs·replay-cache·reference-at reference-at-def.routine code.calls-runs·replay-cache·reference-at (reference-at-thm.met 𝓤 H 𝓜 𝓖 𝓡))
+    (cited 𝓤 H (Refer 𝓤 H (𝓖 .A) (𝓜 .mem) (𝓡 .run)) 𝓜 𝓡 code.env #runs·replay-cache·refer refer-def.routine code.calls-runs·replay-cache·refer (refer-thm.met 𝓤 H 𝓜 𝓖 𝓡)))

@@ -22,11 +22,11 @@ index-requires c κs = search needs
 number-requires : tie.Need-number-requires
 number-requires c κs = search needs
 
-mul-if1 : tie.Need-mul-if1
-mul-if1 c = search needs
+mul-old : tie.Need-mul-old
+mul-old c = search needs
 
-array-read-if1 : tie.Need-array-read-if1
-array-read-if1 c = low (c .before .before)
+array-read-old : tie.Need-array-read-old
+array-read-old c = low (c .before .before)
 
 add-misses : tie.Need-add-misses
 add-misses c = search needs
@@ -56,8 +56,8 @@ referred-spec =
     cache-block-requires
     index-requires
     number-requires
-    mul-if1
-    array-read-if1
+    mul-old
+    array-read-old
     add-misses
     mul-cells
     array-write-cells

@@ -1,9 +1,10 @@
 -- `complete::complete` meets its contract: the walk gives the blocks, and the jumps the sets of their successors. Assumes nothing.
-use mathlib.Core.Path.{sym, ap, _∙_}
+use mathlib.Core.Path.{sym, ap, ap₂, _∙_}
 use native.Mathlib.Omega.{arith}
 use Rattle.body.specs.Jumps.{jumpSets}
 use Rattle.body.proofs.JumpLaws.{WalkedTask, walked-task}
-use Rattle.sheet.specs.Parsed.{completePath}
+use Rattle.sheet.specs.Parsed.{completePath, completeBySets}
+use Rattle.sheet.proofs.StepLaws.{complete-by-sets}
 use borrow.Author.Needs.{needs}
 use Rattle.sheet.proofs.complete.complete.Statement.{statement}
 use Rattle.sheet.proofs.complete.complete.Tie as tie
@@ -26,7 +27,10 @@ returns : tie.Need-returns
 returns c =
     let f = facts (c .before .before) in
     let path = c .before .before .before .before .before .args .path .now in
-    c .steps-to-end .ensures (f .its) (f .bounds) (sym (f .long)) (c .before .jumps .ensures ∙ ap jumpSets (f .same)) ∙ ap (λ t. completePath t path) (sym (f .same))
+    c .steps-to-end .ensures
+    ∙ ap₂ (λ sets blocks. completeBySets sets blocks path) (c .before .jumps .ensures ∙ ap jumpSets (f .same)) (f .long)
+    ∙ complete-by-sets (f .its) (f .bounds) path
+    ∙ ap (λ t. completePath t path) (sym (f .same))
 
 pub complete-spec : {M : Type 1} → statement M
 complete-spec = tie.close (tie.spec walk-requires jumps-requires steps-to-end-requires returns)

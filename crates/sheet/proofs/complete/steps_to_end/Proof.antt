@@ -1,38 +1,38 @@
 -- `complete::steps_to_end` meets its contract: what is left of the path leads to the end just where the whole path is complete. Assumes nothing.
-use mathlib.Core.Path.{_≡_, sym, ap, _∙_}
+use mathlib.Core.Path.{_≡_, _∙_}
 use Prim.Native.Nat.{_-_, _≤_, _<_}
 use native.Mathlib.Omega.{arith}
 use borrow.Author.Needs.{needs}
-use lib.Dec.{eqb}
 use lib.ListN.{length, drop}
-use Rattle.model.specs.Tasks.{Task}
-use Rattle.body.specs.Layout.{InBounds}
-use Rattle.body.specs.Jumps.{jumpSets}
-use Rattle.sheet.specs.Parsed.{leadsToEnd, completePath}
+use Rattle.sheet.specs.Parsed.{leadsBySets, completeBySets}
 use Rattle.sheet.proofs.StepLaws.{path-none, path-elsewhere, path-start, step-outside, step-off, step-on, path-end}
 use Rattle.sheet.proofs.complete.steps_to_end.Statement.{statement}
 use Rattle.sheet.proofs.complete.steps_to_end.Tie as tie
 
 abbrev Inv-loop : tie.InvT-loop
 Inv-loop blocks path sets b₀ i₀ i-end b i =
-    (1 ≤ i) × (i ≤ length path) × (b < blocks)
-    × ((t : Task) → InBounds t → length t ≡ blocks → sets ≡ jumpSets t → leadsToEnd t b (drop i path) ≡ completePath t path)
+    (1 ≤ i) × (i ≤ length path) × (b < blocks) × (leadsBySets sets blocks b (drop i path) ≡ completeBySets sets blocks path)
 
 abbrev μ-loop : tie.MeasureT-loop
 μ-loop blocks path sets b₀ i₀ i-end b i = i-end - i
 
 returns : tie.Need-returns Inv-loop μ-loop
-returns c = λ t h l e. path-none t (c .before .before .args .path .now) (c .if1 .taken)
+returns c =
+    let a = c .before .before .args in
+    path-none (a .t1) (a .blocks) (a .path .now) (c .if1 .taken)
 
 shared-slice-read-if2 : tie.Need-shared-slice-read-if2 Inv-loop μ-loop
 shared-slice-read-if2 c = omega arith
 
 returns-2 : tie.Need-returns-2 Inv-loop μ-loop
-returns-2 c = λ t h l e. path-elsewhere t (c .before .before .before .before .args .path .now) (omega arith) (c .if2 .taken)
+returns-2 c =
+    let a = c .before .before .before .before .args in
+    path-elsewhere (a .t1) (a .blocks) (a .path .now) (omega arith) (c .if2 .taken)
 
 loop-holds : tie.Need-loop-holds Inv-loop μ-loop
 loop-holds c =
-    (omega arith, omega arith, omega arith, λ t h l e. path-start t (c .before .before .before .before .args .path .now) (omega arith) (c .if2 .left))
+    let a = c .before .before .before .before .args in
+    (omega arith, omega arith, omega arith, path-start (a .t1) (a .blocks) (a .path .now) (omega arith) (c .if2 .left))
 
 mul-count : tie.Need-mul-count Inv-loop μ-loop
 mul-count c = omega arith
@@ -47,8 +47,8 @@ returns-3 : tie.Need-returns-3 Inv-loop μ-loop
 returns-3 c =
     let k = c .before in
     let at = k .before .before .before .loop in
-    let path = k .before .before .before .before .before .before .before .before .args .path .now in
-    λ t h l e. step-outside t path h (at .b) (at .i) (omega arith) (k .count .ensures .0) (omega (arith, l, c .if3 .taken)) ∙ at .inv .3 t h l e
+    let a = k .before .before .before .before .before .before .before .before .args in
+    step-outside (a .t1) (a .blocks) (a .path .now) (at .b) (at .i) (omega arith) (k .count .ensures .0) (c .if3 .taken) ∙ at .inv .3
 
 mul-if4 : tie.Need-mul-if4 Inv-loop μ-loop
 mul-if4 c = omega arith
@@ -66,8 +66,9 @@ returns-4 : tie.Need-returns-4 Inv-loop μ-loop
 returns-4 c =
     let k = c .before .before in
     let at = k .before .before .before .loop in
-    let path = k .before .before .before .before .before .before .before .before .args .path .now in
-    λ t h l e. step-off t path h (at .b) (at .i) (omega arith) (k .count .ensures .0) e (omega (arith, l, at .inv .2)) (omega (arith, l, c .before .if3 .left)) (c .if4 .taken) ∙ at .inv .3 t h l e
+    let start = k .before .before .before .before .before .before .before .before in
+    let a = start .args in
+    step-off (a .t1) (a .blocks) (a .path .now) (at .b) (at .i) (omega arith) (k .count .ensures .0) (start .pre .1) (c .before .if3 .left) (c .if4 .taken) ∙ at .inv .3
 
 add-i : tie.Need-add-i Inv-loop μ-loop
 add-i c = omega arith
@@ -79,11 +80,12 @@ loop-again : tie.Need-loop-again Inv-loop μ-loop
 loop-again c =
     let k = c .before .before in
     let at = k .before .before .before .loop in
-    let path = k .before .before .before .before .before .before .before .before .args .path .now in (
+    let start = k .before .before .before .before .before .before .before .before in
+    let a = start .args in (
       omega arith,
       omega arith,
       omega arith,
-      λ t h l e. step-on t path h (at .b) (at .i) (omega arith) (k .count .ensures .0) e (omega (arith, l, at .inv .2)) (omega (arith, l, c .before .if3 .left)) (c .if4 .left) ∙ at .inv .3 t h l e,
+      step-on (a .t1) (a .blocks) (a .path .now) (at .b) (at .i) (omega arith) (k .count .ensures .0) (start .pre .1) (c .before .if3 .left) (c .if4 .left) ∙ at .inv .3,
     )
 
 sub-result : tie.Need-sub-result Inv-loop μ-loop
@@ -92,8 +94,8 @@ sub-result c = omega arith
 returns-5 : tie.Need-returns-5 Inv-loop μ-loop
 returns-5 c =
     let at = c .before .loop in
-    let path = c .before .before .before .before .before .before .args .path .now in
-    λ t h l e. ap (λ n. eqb (at .b) (n - 1)) (sym l) ∙ path-end t path (at .b) (at .i) (omega arith) (omega (arith, l, at .inv .2)) ∙ at .inv .3 t h l e
+    let a = c .before .before .before .before .before .before .args in
+    path-end (a .t1) (a .blocks) (a .path .now) (at .b) (at .i) (omega arith) ∙ at .inv .3
 
 pub steps-to-end-spec : {M : Type 1} → statement M
 steps-to-end-spec =

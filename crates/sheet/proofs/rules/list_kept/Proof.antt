@@ -1,6 +1,6 @@
 -- `rules::list_kept` meets its contract: the count decides, or the preemptions do. Assumes nothing.
 use native.Mathlib.Omega.{arith}
-use Rattle.sheet.proofs.RuleLaws.{after-short, after-many, after-list}
+use Rattle.sheet.proofs.RuleLaws.{count-none, count-many, count-list}
 use borrow.Author.Needs.{needs}
 use Rattle.sheet.proofs.rules.list_kept.Statement.{statement}
 use Rattle.sheet.proofs.rules.list_kept.Tie as tie
@@ -8,7 +8,7 @@ use Rattle.sheet.proofs.rules.list_kept.Tie as tie
 returns : tie.Need-returns
 returns c =
     let a = c .before .before .args in
-    λ path l. after-short (a .tasks) (a .p) path (a .sheet .now) (a .at) (c .if1 .taken)
+    count-none (a .tasks) (a .p) (a .long) (a .sheet .now) (a .at) (c .if1 .taken)
 
 mul-count : tie.Need-mul-count
 mul-count c = search needs
@@ -22,7 +22,7 @@ count-requires c κs = search needs
 returns-2 : tie.Need-returns-2
 returns-2 c =
     let a = c .before .before .before .before .before .args in
-    λ path l. after-many (a .tasks) (a .p) path (a .sheet .now) (a .at) (omega arith) (c .before .count .ensures .0) (c .if2 .taken)
+    count-many (a .tasks) (a .p) (a .long) (a .sheet .now) (a .at) (omega arith) (c .before .count .ensures .0) (c .if2 .taken)
 
 add-preemptions-kept : tie.Need-add-preemptions-kept
 add-preemptions-kept c = search needs
@@ -34,7 +34,7 @@ returns-3 : tie.Need-returns-3
 returns-3 c =
     let k = c .before .before in
     let a = k .before .before .before .before .args in
-    λ path l. after-list (a .tasks) (a .p) path (a .sheet .now) (a .at) (a .long) (omega arith) (k .count .ensures .0) (c .before .if2 .left) l (c .preemptions-kept .ensures)
+    count-list (a .tasks) (a .p) (a .long) (a .sheet .now) (a .at) (omega arith) (k .count .ensures .0) (c .before .if2 .left) (c .preemptions-kept .ensures)
 
 pub list-kept-spec : {M : Type 1} → statement M
 list-kept-spec =

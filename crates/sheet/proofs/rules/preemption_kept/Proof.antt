@@ -1,6 +1,7 @@
 -- `rules::preemption_kept` meets its contract: each answer is the test at the number that decides it. Assumes nothing.
 use mathlib.Core.List.{List}
 use Prim.Native.Nat.{ℕ, _+_}
+use native.Mathlib.Omega.{arith}
 use lib.ListN.{getD, drop}
 use Rattle.sheet.proofs.RuleLaws.{test-low, test-outside, test-absent, test-own, test-path, path-in-part}
 use borrow.Author.Needs.{needs}
@@ -50,7 +51,7 @@ returns-3 c =
     let a = k .before .before .before .before .before .args in
     let s = a .sheet .now in
     test-absent (a .tasks) (a .p) (a .long) (a .low) (getD s (a .at) 0) (getD s (a .at + 1) 0) (getD s (a .at + 2) 0) (drop (a .at + 3) s)
-    (k .before .before .count .ensures .0) (k .count2 .ensures .0) (c .before .before .if1 .left) (c .before .if2 .left) (c .if3 .taken)
+    (k .before .before .count .ensures .0) (k .count2 .ensures .0) (c .before .before .if1 .left) (c .before .if2 .left) (omega arith)
 
 returns-4 : tie.Need-returns-4
 returns-4 c =
@@ -58,7 +59,7 @@ returns-4 c =
     let a = k .before .before .before .before .before .args in
     let s = a .sheet .now in
     test-own (a .tasks) (a .p) (a .long) (a .low) (getD s (a .at) 0) (getD s (a .at + 1) 0) (getD s (a .at + 2) 0) (drop (a .at + 3) s)
-    (k .before .before .count .ensures .0) (k .count2 .ensures .0) (c .before .before .before .if1 .left) (c .before .before .if2 .left) (c .before .if3 .left) (c .if4 .taken)
+    (k .before .before .count .ensures .0) (k .count2 .ensures .0) (c .before .before .before .if1 .left) (c .before .before .if2 .left) (omega arith) (c .if4 .taken)
 
 add-from : tie.Need-add-from
 add-from c = search needs

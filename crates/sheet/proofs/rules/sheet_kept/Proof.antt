@@ -17,7 +17,7 @@ count-requires c κs = search needs
 returns-2 : tie.Need-returns-2
 returns-2 c =
     let a = c .before .before .before .before .before .args in
-    sheet-task (a .tasks) (a .sheet .now) (omega arith) (c .before .count .ensures .0) (c .if2 .taken)
+    sheet-task (a .tasks) (a .sheet .now) (omega arith) (c .before .count .ensures .0) (omega arith)
 
 shared-slice-read-count-2 : tie.Need-shared-slice-read-count-2
 shared-slice-read-count-2 c = search needs

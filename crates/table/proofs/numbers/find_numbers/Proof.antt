@@ -9,7 +9,8 @@ use Rattle.project.specs.declared.answers.Check.the-variants.{Refused as Failed
 use Rattle.project.specs.File.{taskCount}
 use Rattle.project.specs.Tasks.{tasksOf}
 use borrow.Author.Needs.{needs}
-use Rattle.reader.proofs.TaskBodies.{TaskBody, task-body, part-kept, part-task}
+use Rattle.reader.proofs.TaskBodies.{TaskBody, body-kept, body-task}
+use Rattle.reader.proofs.TaskBodies.{task-body as of-task}
 use Rattle.table.specs.Found.{NumbersFound}
 use Rattle.table.proofs.TableLaws.{SoFar, at-first, found-as, row-zeros, stops, grown-long, turn, ends, whole}
 use Rattle.table.proofs.numbers.find_numbers.Statement.{statement}
@@ -26,17 +27,17 @@ no-table e = let z : _≡_ {A = ℕ} 0 1 = cc in omega arith
 
 -- the task numbered i is one of the file
 the-task : (c : tie.In-loop Inv-loop μ-loop) → TaskBody (c .before .before .before .before .before .before .before .args .file .now) (c .before .loop .i)
-the-task c = task-body (c .before .before .before .before .before .before .before .args .file .now) (c .before .before .before .before .before .before .before .pre .0) (c .before .loop .i) (omega (arith, c .before .before .before .before .before .before .before .pre .2, c .before .loop .inv .0))
+the-task c = of-task (c .before .before .before .before .before .before .before .args .file .now) (c .before .before .before .before .before .before .before .pre .0) (c .before .loop .i) (omega (arith, c .before .before .before .before .before .before .before .pre .2, c .before .loop .inv .0))
 
 -- what was found of it
 found : (c : tie.After-task-numbers Inv-loop μ-loop)
-    → NumbersFound (c .before .before .before .before .before .before .before .before .before .before .before .before .before .args .n) (tasksOf (c .before .before .before .before .before .before .before .before .before .before .before .before .before .args .file .now)) (taskCount (c .before .before .before .before .before .before .before .before .before .before .before .before .before .args .file .now)) (task (tasksOf (c .before .before .before .before .before .before .before .before .before .before .before .before .before .args .file .now)) (c .before .before .before .before .before .before .before .loop .i))
+    → NumbersFound (c .before .before .before .before .before .before .before .before .before .before .before .args .n) (tasksOf (c .before .before .before .before .before .before .before .before .before .before .before .args .file .now)) (taskCount (c .before .before .before .before .before .before .before .before .before .before .before .args .file .now)) (task (tasksOf (c .before .before .before .before .before .before .before .before .before .before .before .args .file .now)) (c .before .before .before .before .before .loop .i))
     (c .task-numbers .last .1 .1 .1 .1 .1 .1 .0) (c .task-numbers .result)
 found c =
-    let start = c .before .before .before .before .before .before .before .before .before .before .before .before .before in
-    let at = c .before .before .before .before .before .before .before .loop in
-    let placed = c .before .before .before .before .before .entry .ensures in
-    found-as (start .pre .2) (part-task (start .args .file .now) (at .i) (the-task (c .before .before .before .before .before .before)) (placed .0) (placed .1))
+    let start = c .before .before .before .before .before .before .before .before .before .before .before in
+    let at = c .before .before .before .before .before .loop in
+    let placed = c .before .before .before .task-body .ensures .0 in
+    found-as (start .pre .2) (body-task (start .args .file .now) (at .i) (the-task (c .before .before .before .before)) placed)
     (c .task-numbers .ensures .1 (tasksOf (start .args .file .now)) (start .pre .4))
 
 loop-holds : tie.Need-loop-holds Inv-loop μ-loop
@@ -44,20 +45,8 @@ loop-holds c =
     let start = c .before .before .before .before .before in
     (omega arith, start .pre .3, at-first (start .args .file .now) (start .args .n) (start .pre .5))
 
-entry-requires : tie.Need-entry-requires Inv-loop μ-loop
-entry-requires c κs = search needs
-
-add-to : tie.Need-add-to Inv-loop μ-loop
-add-to c = search needs
-
-sub-task-numbers : tie.Need-sub-task-numbers Inv-loop μ-loop
-sub-task-numbers c = search needs
-
-part-task-numbers-start : tie.Need-part-task-numbers-start Inv-loop μ-loop
-part-task-numbers-start c = search needs
-
-part-task-numbers-end : tie.Need-part-task-numbers-end Inv-loop μ-loop
-part-task-numbers-end c = search needs
+task-body-requires : tie.Need-task-body-requires Inv-loop μ-loop
+task-body-requires c κs = search needs
 
 mul-task-numbers : tie.Need-mul-task-numbers Inv-loop μ-loop
 mul-task-numbers c = search needs
@@ -71,22 +60,22 @@ add-task-numbers c = search needs
 mul-task-numbers-3 : tie.Need-mul-task-numbers-3 Inv-loop μ-loop
 mul-task-numbers-3 c = search needs
 
-sub-task-numbers-2 : tie.Need-sub-task-numbers-2 Inv-loop μ-loop
-sub-task-numbers-2 c = search needs
+sub-task-numbers : tie.Need-sub-task-numbers Inv-loop μ-loop
+sub-task-numbers c = search needs
 
-part-task-numbers-start-2 : tie.Need-part-task-numbers-start-2 Inv-loop μ-loop
-part-task-numbers-start-2 c = search needs
+part-task-numbers-start : tie.Need-part-task-numbers-start Inv-loop μ-loop
+part-task-numbers-start c = search needs
 
-part-task-numbers-end-2 : tie.Need-part-task-numbers-end-2 Inv-loop μ-loop
-part-task-numbers-end-2 c = search needs
+part-task-numbers-end : tie.Need-part-task-numbers-end Inv-loop μ-loop
+part-task-numbers-end c = search needs
 
 task-numbers-requires : tie.Need-task-numbers-requires Inv-loop μ-loop
 task-numbers-requires c κs =
-    let start = c .before .before .before .before .before .before .before .before .before .before .before .before in
-    let at = c .before .before .before .before .before .before .loop in
-    let placed = c .before .before .before .before .entry .ensures in
-    let t = the-task (c .before .before .before .before .before) in (
-      part-kept (start .args .file .now) (at .i) t (placed .0) (placed .1),
+    let start = c .before .before .before .before .before .before .before .before .before .before in
+    let at = c .before .before .before .before .loop in
+    let placed = c .before .before .task-body .ensures .0 in
+    let t = the-task (c .before .before .before) in (
+      body-kept (start .args .file .now) (at .i) t placed,
       omega (arith, start .pre .1, t .low),
       omega (arith, start .pre .1, t .high),
       at .inv .1,
@@ -102,17 +91,17 @@ same-length c = search needs
 
 same-length-2 : tie.Need-same-length-2 Inv-loop μ-loop
 same-length-2 c =
-    let start = c .before .before .before .before .before .before .before .before .before .before .before .before .before .before .before .before .before .before .before in
-    let at = c .before .before .before .before .before .before .before .before .before .before .before .before .before .loop in
-    let t = the-task (c .before .before .before .before .before .before .before .before .before .before .before .before) in
+    let start = c .before .before .before .before .before .before .before .before .before .before .before .before .before .before .before .before .before in
+    let at = c .before .before .before .before .before .before .before .before .before .before .before .loop in
+    let t = the-task (c .before .before .before .before .before .before .before .before .before .before) in
     grown-long (start .args .file .now) (start .args .n) (at .i) (start .pre .1) (t .inFile .below) (t .inFile .few) (at .numbers) (at .inv .2) (c .before .before .before .before .before .before .task-numbers .last .1 .1 .1 .1 .1 .1 .0) (found (c .before .before .before .before .before .before) .long)
     ∙ sym (ap length (start .pre .5) ∙ length-replicate {A = ℕ} 64 0)
 
 returns : tie.Need-returns Inv-loop μ-loop
 returns c =
-    let start = c .before .before .before .before .before .before .before .before .before .before .before .before .before .before .before .before .before .before .before in
-    let at = c .before .before .before .before .before .before .before .before .before .before .before .before .before .loop in
-    let t = the-task (c .before .before .before .before .before .before .before .before .before .before .before .before) in
+    let start = c .before .before .before .before .before .before .before .before .before .before .before .before .before .before .before .before .before in
+    let at = c .before .before .before .before .before .before .before .before .before .before .before .loop in
+    let t = the-task (c .before .before .before .before .before .before .before .before .before .before) in
     let e = stops (start .args .file .now) (start .args .n) (at .i) (start .pre .1) (t .inFile .below) (t .inFile .few) (at .numbers) (at .inv .2) (found (c .before .before .before .before .before .before) .answer) (c .before .if1 .taken) (c .task-byte .ensures) in
     (c .before .before .before .before .before .before .task-numbers .ensures .0, e, λ q. absurd (no-table q))
 
@@ -124,9 +113,9 @@ mul-numbers-2 c = search needs
 
 slice-write-numbers : tie.Need-slice-write-numbers Inv-loop μ-loop
 slice-write-numbers c =
-    let start = c .before .before .before .before .before .before .before .before .before .before .before .before .before .before .before .before .before .before in
-    let at = c .before .before .before .before .before .before .before .before .before .before .before .before .loop in
-    let t = the-task (c .before .before .before .before .before .before .before .before .before .before .before) in
+    let start = c .before .before .before .before .before .before .before .before .before .before .before .before .before .before .before .before in
+    let at = c .before .before .before .before .before .before .before .before .before .before .loop in
+    let t = the-task (c .before .before .before .before .before .before .before .before .before) in
     let z = grown-long (start .args .file .now) (start .args .n) (at .i) (start .pre .1) (t .inFile .below) (t .inFile .few) (at .numbers) (at .inv .2) (c .before .before .before .before .before .task-numbers .last .1 .1 .1 .1 .1 .1 .0) (found (c .before .before .before .before .before) .long) in
     omega (arith, z, t .inFile .below, t .inFile .few)
 
@@ -138,9 +127,9 @@ loop-less c = search needs
 
 loop-again : tie.Need-loop-again Inv-loop μ-loop
 loop-again c =
-    let start = c .before .before .before .before .before .before .before .before .before .before .before .before .before .before .before .before .before .before in
-    let at = c .before .before .before .before .before .before .before .before .before .before .before .before .loop in
-    let t = the-task (c .before .before .before .before .before .before .before .before .before .before .before) in (
+    let start = c .before .before .before .before .before .before .before .before .before .before .before .before .before .before .before .before in
+    let at = c .before .before .before .before .before .before .before .before .before .before .loop in
+    let t = the-task (c .before .before .before .before .before .before .before .before .before) in (
       omega arith,
       c .before .before .before .before .before .task-numbers .ensures .0,
       turn (start .args .file .now) (start .args .n) (at .i) (start .pre .1) (t .inFile .below) (t .inFile .few) (at .numbers) (at .inv .2) (c .before .before .before .before .before .task-numbers .last .1 .1 .1 .1 .1 .1 .0) (found (c .before .before .before .before .before)) (c .if1 .left),
@@ -169,18 +158,14 @@ find-numbers-spec =
     Inv-loop
     μ-loop
     loop-holds
-    entry-requires
-    add-to
-    sub-task-numbers
-    part-task-numbers-start
-    part-task-numbers-end
+    task-body-requires
     mul-task-numbers
     mul-task-numbers-2
     add-task-numbers
     mul-task-numbers-3
-    sub-task-numbers-2
-    part-task-numbers-start-2
-    part-task-numbers-end-2
+    sub-task-numbers
+    part-task-numbers-start
+    part-task-numbers-end
     task-numbers-requires
     task-byte-requires
     same-length

@@ -1,0 +1,87 @@
+// Every list in turn without elements, its pointer null: each call answers as include/crpd.h says, from C++.
+#include "crpd.h"
+
+#include <cstdio>
+#include <vector>
+
+static int failed = 0;
+
+static void expect(const char *call, int expected, int found)
+{
+    if (expected != found) {
+        std::printf("%s: %d expected, %d found\n", call, expected, found);
+        failed = 1;
+    }
+}
+
+// file E of document 01, and its two bodies
+static const uint8_t e[] = {0x43, 0x52, 0x50, 0x44, 1, 2, 2, 0, 16, 0, 10, 0, 26, 0, 7, 0,
+                            1, 0, 0, 1, 2, 0, 0, 0, 1, 0, 1, 0, 0, 0, 1, 2, 0};
+static const uint8_t *const bodies = e + 16;
+static const size_t lengths[] = {10, 7};
+
+static uint8_t *const no_bytes = NULL;
+static uint16_t *const no_numbers = NULL;
+static uint32_t *const no_misses = NULL;
+static size_t *const no_counts = NULL;
+
+static void read_and_body()
+{
+    uint8_t answer[CRPD_READ_LENGTH];
+    size_t found[CRPD_PLACE_LENGTH];
+    expect("read, file", CRPD_CHECK_FILE_LENGTH, crpd_read(no_bytes, 0, answer, CRPD_READ_LENGTH));
+    expect("read, answer", CRPD_CHECK_LENGTHS, crpd_read(e, sizeof e, no_bytes, 0));
+    expect("body, file", CRPD_DONE, crpd_body(no_bytes, 0, 0, found, CRPD_PLACE_LENGTH));
+    expect("body, length", 0, (int)found[1]);
+    expect("body, found", CRPD_CHECK_LENGTHS, crpd_body(e, sizeof e, 0, no_counts, 0));
+}
+
+static void states_and_row()
+{
+    std::vector<uint16_t> area(CRPD_AREA_LENGTH);
+    uint8_t named[CRPD_NAMED_LENGTH];
+    size_t found[CRPD_PLACE_LENGTH];
+    expect("states, file", CRPD_CHECK_FILE_LENGTH, crpd_states(no_bytes, 0, 0, &area[0], CRPD_AREA_LENGTH, named, 1));
+    expect("states, area", CRPD_CHECK_LENGTHS, crpd_states(e, sizeof e, 0, no_numbers, 0, named, 1));
+    expect("states, named", CRPD_CHECK_LENGTHS, crpd_states(e, sizeof e, 0, &area[0], CRPD_AREA_LENGTH, no_bytes, 0));
+    expect("row, area", CRPD_DONE, crpd_row(no_numbers, 0, 0, 0, 0, found, CRPD_PLACE_LENGTH));
+    expect("row, length", 0, (int)found[1]);
+    expect("row, found", CRPD_CHECK_LENGTHS, crpd_row(&area[0], CRPD_AREA_LENGTH, 0, 0, 0, no_counts, 0));
+}
+
+static void table()
+{
+    std::vector<uint16_t> area(CRPD_AREA_LENGTH), numbers(CRPD_TABLE_LENGTH);
+    uint16_t *a = &area[0], *t = &numbers[0];
+    uint8_t named[CRPD_NAMED_LENGTH];
+    expect("table, file", CRPD_CHECK_FILE_LENGTH,
+           crpd_table(no_bytes, 0, a, CRPD_AREA_LENGTH, t, CRPD_TABLE_LENGTH, named, 1));
+    expect("table, area", CRPD_CHECK_LENGTHS, crpd_table(e, sizeof e, no_numbers, 0, t, CRPD_TABLE_LENGTH, named, 1));
+    expect("table, numbers", CRPD_CHECK_LENGTHS, crpd_table(e, sizeof e, a, CRPD_AREA_LENGTH, no_numbers, 0, named, 1));
+    expect("table, named", CRPD_CHECK_LENGTHS,
+           crpd_table(e, sizeof e, a, CRPD_AREA_LENGTH, t, CRPD_TABLE_LENGTH, no_bytes, 0));
+}
+
+static void replay_and_write()
+{
+    const uint16_t sheet[] = {0, 1, 0, 0};
+    uint32_t misses[CRPD_REPLAY_LENGTH];
+    uint8_t out[sizeof e];
+    size_t answer[CRPD_WRITE_LENGTH];
+    expect("replay, file", CRPD_CHECK_FILE_LENGTH, crpd_replay(no_bytes, 0, sheet, 4, misses, CRPD_REPLAY_LENGTH));
+    expect("replay, sheet", CRPD_CHECK_SHEET, crpd_replay(e, sizeof e, no_numbers, 0, misses, CRPD_REPLAY_LENGTH));
+    expect("replay, answer", CRPD_CHECK_LENGTHS, crpd_replay(e, sizeof e, sheet, 4, no_misses, 0));
+    expect("write, bodies", CRPD_CHECK_CONTENTS, crpd_write(2, no_bytes, 0, lengths, 2, out, sizeof out, answer, 2));
+    expect("write, lengths", CRPD_CHECK_TASKS, crpd_write(2, bodies, 17, no_counts, 0, out, sizeof out, answer, 2));
+    expect("write, out", CRPD_CHECK_OUT_LENGTH, crpd_write(2, bodies, 17, lengths, 2, no_bytes, 0, answer, 2));
+    expect("write, answer", CRPD_CHECK_LENGTHS, crpd_write(2, bodies, 17, lengths, 2, out, sizeof out, no_counts, 0));
+}
+
+int main()
+{
+    read_and_body();
+    states_and_row();
+    table();
+    replay_and_write();
+    return failed;
+}

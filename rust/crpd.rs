@@ -1,0 +1,196 @@
+//! The proved calls for safe Rust, over the static library of crates/crpd_c; include/crpd.h says what each call does.
+//!
+//! `rustc --crate-type rlib -L target/staticlib rust/crpd.rs`, after `rt staticlib crpd_c`. It is built for x86-64.
+
+/// Numbers of a work area.
+pub const AREA_LENGTH: usize = 24832;
+/// Numbers of a table of pair numbers.
+pub const TABLE_LENGTH: usize = 64;
+/// Bytes of the longest file: an out list of this length always suffices.
+pub const FILE_LENGTH: usize = 7544;
+/// In a row: no memory block.
+pub const NOTHING: u16 = 65535;
+/// In the answers of the calls for C: no task.
+const NO_TASK: u8 = 255;
+
+/// The check that fails first, 1 to 15, and the task that it names.
+#[derive(Clone, Copy, Debug, PartialEq, Eq)]
+pub struct Refusal {
+    pub check: u8,
+    pub task: Option<u8>,
+}
+
+impl Refusal {
+    fn new(check: u8, task: u8) -> Refusal {
+        Refusal { check, task: (task != NO_TASK).then_some(task) }
+    }
+
+    /// The check and the task as two numbers, with 255 for no task.
+    pub fn numbers(self) -> (u8, u8) {
+        (self.check, self.task.unwrap_or(NO_TASK))
+    }
+}
+
+impl std::fmt::Display for Refusal {
+    /// As crpd prints it.
+    fn fmt(&self, to: &mut std::fmt::Formatter) -> std::fmt::Result {
+        let (check, task) = self.numbers();
+        write!(to, "refused {check} task {task}")
+    }
+}
+
+impl std::error::Error for Refusal {}
+
+/// What the head of an accepted file says.
+#[derive(Clone, Copy, Debug, PartialEq, Eq)]
+pub struct Head {
+    pub cache_blocks: u8,
+    pub tasks: u8,
+}
+
+/// The misses of a task's own references: U, without the preemptions, and D, with them.
+#[derive(Clone, Copy, Debug, PartialEq, Eq)]
+pub struct Misses {
+    pub undisturbed: u32,
+    pub disturbed: u32,
+}
+
+/// `done` where the status is 0, else the refusal.
+fn result<T>(status: u8, task: u8, done: T) -> Result<T, Refusal> {
+    if status == 0 { Ok(done) } else { Err(Refusal::new(status, task)) }
+}
+
+/// Reader: checks 2 to 10.
+pub fn read(file: &[u8]) -> Result<Head, Refusal> {
+    let mut answer = [0; 3];
+    let status = calls::read(file, &mut answer);
+    let [task, cache_blocks, tasks] = answer;
+    result(status, task, Head { cache_blocks, tasks })
+}
+
+/// Body: that part of the file, empty if the file isn't accepted or the task isn't below t.
+pub fn body(file: &[u8], task: usize) -> &[u8] {
+    let mut found = [0; 2];
+    calls::body(file, task, &mut found);
+    &file[found[0]..found[0] + found[1]]
+}
+
+/// States: checks 1 to 10, 15, and 11 for this task. The area gets the states; after a refusal it holds zeros, except
+/// after 1, which changes nothing.
+pub fn states(file: &[u8], task: usize, area: &mut [u16]) -> Result<(), Refusal> {
+    let mut named = [0; 1];
+    let status = calls::states(file, task, area, &mut named);
+    result(status, named[0], ())
+}
+
+/// Row: that part of the area, empty if there is no such row.
+pub fn row(area: &[u16], live: bool, block: usize, number: usize) -> &[u16] {
+    let mut found = [0; 2];
+    calls::row(area, u8::from(live), block, number, &mut found);
+    &area[found[0]..found[0] + found[1]]
+}
+
+/// Table: checks 1 to 11. The table gets the pair numbers, and keeps its contents after a refusal; what the area holds
+/// afterwards is free.
+pub fn table(file: &[u8], area: &mut [u16], numbers: &mut [u16]) -> Result<(), Refusal> {
+    let mut named = [0; 1];
+    let status = calls::table(file, area, numbers, &mut named);
+    result(status, named[0], ())
+}
+
+/// Replay: checks 2 to 10, 12 and 13.
+pub fn replay(file: &[u8], sheet: &[u16]) -> Result<Misses, Refusal> {
+    let mut answer = [0; 3];
+    let status = calls::replay(file, sheet, &mut answer);
+    let [task, undisturbed, disturbed] = answer;
+    // a task that is named is a byte
+    result(status, task as u8, Misses { undisturbed, disturbed })
+}
+
+/// Writer: checks 5 to 10 and 14. The front of the out list gets the file, whose length is answered.
+pub fn write(n: u8, bodies: &[u8], lengths: &[usize], out: &mut [u8]) -> Result<usize, Refusal> {
+    let mut answer = [0; 2];
+    let status = calls::write(n, bodies, lengths, out, &mut answer);
+    let [task, length] = answer;
+    // a task that is named is a byte
+    result(status, task as u8, length)
+}
+
+/// The calls as include/crpd.h has them: each answers its status, and puts the rest into its last list, which has a
+/// fixed length. A slice passes as a pointer and a number of elements.
+pub mod calls {
+    #[link(name = "crpd_c", kind = "static")]
+    extern "C" {
+        fn crpd_read(file: *const u8, file_length: usize, answer: *mut u8, answer_length: usize) -> u8;
+        fn crpd_body(file: *const u8, file_length: usize, task: usize, found: *mut usize, found_length: usize) -> u8;
+        fn crpd_states(
+            file: *const u8, file_length: usize, task: usize, area: *mut u16, area_length: usize,
+            named: *mut u8, named_length: usize,
+        ) -> u8;
+        fn crpd_row(
+            area: *const u16, area_length: usize, live: u8, block: usize, number: usize,
+            found: *mut usize, found_length: usize,
+        ) -> u8;
+        fn crpd_table(
+            file: *const u8, file_length: usize, area: *mut u16, area_length: usize,
+            numbers: *mut u16, numbers_length: usize, named: *mut u8, named_length: usize,
+        ) -> u8;
+        fn crpd_replay(
+            file: *const u8, file_length: usize, sheet: *const u16, sheet_length: usize,
+            answer: *mut u32, answer_length: usize,
+        ) -> u8;
+        fn crpd_write(
+            n: u8, bodies: *const u8, bodies_length: usize, lengths: *const usize, lengths_length: usize,
+            out: *mut u8, out_length: usize, answer: *mut usize, answer_length: usize,
+        ) -> u8;
+    }
+
+    // In each call below the pointers and the numbers of elements are those of slices, and slices that are written to
+    // overlap no other.
+
+    pub fn read(file: &[u8], answer: &mut [u8]) -> u8 {
+        unsafe { crpd_read(file.as_ptr(), file.len(), answer.as_mut_ptr(), answer.len()) }
+    }
+
+    pub fn body(file: &[u8], task: usize, found: &mut [usize]) -> u8 {
+        unsafe { crpd_body(file.as_ptr(), file.len(), task, found.as_mut_ptr(), found.len()) }
+    }
+
+    pub fn states(file: &[u8], task: usize, area: &mut [u16], named: &mut [u8]) -> u8 {
+        unsafe {
+            crpd_states(
+                file.as_ptr(), file.len(), task, area.as_mut_ptr(), area.len(), named.as_mut_ptr(), named.len(),
+            )
+        }
+    }
+
+    pub fn row(area: &[u16], live: u8, block: usize, number: usize, found: &mut [usize]) -> u8 {
+        unsafe { crpd_row(area.as_ptr(), area.len(), live, block, number, found.as_mut_ptr(), found.len()) }
+    }
+
+    pub fn table(file: &[u8], area: &mut [u16], numbers: &mut [u16], named: &mut [u8]) -> u8 {
+        unsafe {
+            crpd_table(
+                file.as_ptr(), file.len(), area.as_mut_ptr(), area.len(),
+                numbers.as_mut_ptr(), numbers.len(), named.as_mut_ptr(), named.len(),
+            )
+        }
+    }
+
+    pub fn replay(file: &[u8], sheet: &[u16], answer: &mut [u32]) -> u8 {
+        unsafe {
+            crpd_replay(
+                file.as_ptr(), file.len(), sheet.as_ptr(), sheet.len(), answer.as_mut_ptr(), answer.len(),
+            )
+        }
+    }
+
+    pub fn write(n: u8, bodies: &[u8], lengths: &[usize], out: &mut [u8], answer: &mut [usize]) -> u8 {
+        unsafe {
+            crpd_write(
+                n, bodies.as_ptr(), bodies.len(), lengths.as_ptr(), lengths.len(),
+                out.as_mut_ptr(), out.len(), answer.as_mut_ptr(), answer.len(),
+            )
+        }
+    }
+}
