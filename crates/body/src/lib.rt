@@ -74,7 +74,7 @@ pub fn block_count(body: &[u8]) -> usize
     block::count(body[0])
 }
 
-// The successors of the block that begins at `at`, one byte each.
+// The successors of the block that begins at `at`, one byte each, as a part of the body; where in the body it stands is left open.
 pub fn successors(body: &[u8], at: usize) -> &[u8]
     requires { ⌜ successorsEnd at (now body) ≤ length (now body) ⌝ }
     ensures { λ r. ⌜ now r ≡ successorsAt at (now (body .entry)) ⌝ }
@@ -84,7 +84,7 @@ pub fn successors(body: &[u8], at: usize) -> &[u8]
     &body[from..to]
 }
 
-// The references of the block that begins at `at`, two bytes each.
+// The references of the block that begins at `at`, two bytes each, as a part of the body; where in the body it stands is left open.
 pub fn references(body: &[u8], at: usize) -> &[u8]
     requires { ⌜ referencesEnd at (now body) ≤ length (now body) ⌝ }
     ensures { λ r. ⌜ now r ≡ referencesAt at (now (body .entry)) ⌝ }
