@@ -1,4 +1,5 @@
 //! Project files for measuring.
+use crate::plain;
 
 /// A block: its successors and its references.
 pub type Block = (Vec<u8>, Vec<u16>);
@@ -66,6 +67,68 @@ pub fn tiny() -> Vec<u8> {
 pub fn typical() -> Vec<u8> {
     let bodies: Vec<Vec<u8>> = (0..4).map(|j| body(&forks(8, j, 2 + j % 2, 2))).collect();
     file(8, &bodies)
+}
+
+/// Numbers that look random, always the same.
+struct Numbers(u64);
+
+impl Numbers {
+    fn below(&mut self, bound: usize) -> usize {
+        self.0 = self.0.wrapping_mul(6364136223846793005).wrapping_add(1442695040888963407);
+        (self.0 >> 33) as usize % bound
+    }
+
+    /// One of two memory blocks of each of `count` different cache blocks, for task j.
+    fn references(&mut self, n: usize, j: usize, count: usize) -> Vec<u16> {
+        let mut left: Vec<usize> = (0..n).collect();
+        (0..count)
+            .map(|_| {
+                let k = self.below(left.len());
+                let c = left.swap_remove(k);
+                memory(n, j, self.below(2), c)
+            })
+            .collect()
+    }
+}
+
+/// A loop over five forks whose arms load seven memory blocks each, and six blocks that load one.
+fn wide_forks(n: usize, j: usize, numbers: &mut Numbers) -> Vec<Block> {
+    let all: Vec<u16> = (0..n).map(|c| memory(n, j, 0, c)).collect();
+    let mut blocks = vec![(vec![1], all.clone())];
+    for k in 0..5 {
+        let head = 1 + 3 * k as u8;
+        blocks.push((vec![head + 1, head + 2], vec![]));
+        blocks.push((vec![head + 3], numbers.references(n, j, 7)));
+        blocks.push((vec![head + 3], numbers.references(n, j, 7)));
+    }
+    for _ in 0..6 {
+        let next = blocks.len() as u8 + 1;
+        blocks.push((vec![next], numbers.references(n, j, 1)));
+    }
+    blocks.push((vec![1, 23], vec![]));
+    blocks.push((vec![], all));
+    blocks
+}
+
+/// The mean number of states of either kind of a block, if no block has too many.
+fn mean_states(n: u8, body: Vec<u8>) -> Option<f64> {
+    let (n, tasks) = plain::read(&file(n, &[body])).unwrap();
+    let (reaching, live) = (plain::reaching(n, &tasks[0])?, plain::live(n, &tasks[0])?);
+    let rows: usize = reaching.iter().chain(&live).map(|states| states.len()).sum();
+    Some(rows as f64 / 48.0)
+}
+
+/// Eight tasks of 24 blocks, 16 cache blocks, some 26 states in most blocks of the loops, and useful sets that differ from row pair to row pair.
+pub fn varied() -> Vec<u8> {
+    let mut numbers = Numbers(1);
+    let mut varied_body = |j: usize| loop {
+        let bytes = body(&wide_forks(16, j, &mut numbers));
+        if mean_states(16, bytes.clone()).is_some_and(|mean| mean > 21.5) {
+            return bytes;
+        }
+    };
+    let bodies: Vec<Vec<u8>> = (0..8).map(&mut varied_body).collect();
+    file(16, &bodies)
 }
 
 /// Eight tasks of 24 blocks, 16 cache blocks, 32 states a block in the loop.

@@ -8,6 +8,11 @@ use files::Parts;
 use std::hint::black_box;
 use std::time::Instant;
 
+/// The checks that an input of its own fails: on files, on sheets, and of the writer.
+const FILE_CHECKS: [u8; 9] = [2, 3, 4, 5, 6, 7, 8, 9, 10];
+const SHEET_CHECKS: [u8; 2] = [12, 13];
+const WRITER_CHECKS: [u8; 7] = [5, 6, 7, 8, 9, 10, 14];
+
 /// The least time of a call, in nanoseconds, over several rounds of about 20 ms each.
 fn measure(mut call: impl FnMut()) -> f64 {
     let start = Instant::now();
@@ -40,21 +45,16 @@ impl Lines {
         println!("{:16} {:>12} {:>12} {:>8}", "class", "plain Rust", "proved", "ratio");
     }
 
-    /// Measures both versions on all inputs of a class and prints their times.
-    fn line<I, A>(&mut self, name: &str, inputs: &[I], mut plain: impl FnMut(&I) -> A, mut proved: impl FnMut(&I) -> A) {
-        let count = inputs.len() as f64;
+    /// Measures both versions on an input and prints their times.
+    fn line<I, A>(&mut self, name: &str, input: &I, mut plain: impl FnMut(&I) -> A, mut proved: impl FnMut(&I) -> A) {
         let plain_time = measure(|| {
-            for input in inputs {
-                black_box(plain(black_box(input)));
-            }
+            black_box(plain(black_box(input)));
         });
         let proved_time = measure(|| {
-            for input in inputs {
-                black_box(proved(black_box(input)));
-            }
+            black_box(proved(black_box(input)));
         });
         let ratio = proved_time / plain_time;
-        println!("{name:16} {:12.0} {:12.0} {ratio:8.3}", plain_time / count, proved_time / count);
+        println!("{name:16} {plain_time:12.1} {proved_time:12.1} {ratio:8.3}");
         self.ratios.push((ratio, format!("{}, {name}", self.call)));
     }
 
@@ -66,30 +66,35 @@ impl Lines {
     }
 }
 
-/// The classes of files that Table and States take.
-fn file_classes() -> [(&'static str, Vec<Vec<u8>>); 5] {
-    [
-        ("tiny", vec![files::tiny()]),
-        ("typical", vec![files::typical()]),
-        ("largest", vec![files::largest()]),
-        ("refused early", files::refused_early()),
-        ("refused with 11", vec![files::refused_states()]),
-    ]
+/// The names of inputs that are refused, by the checks that they fail.
+fn refused_by(checks: &[u8]) -> impl Iterator<Item = String> + '_ {
+    checks.iter().map(|check| format!("refused by {check}"))
+}
+
+/// The files that Table and States take.
+fn file_classes() -> Vec<(String, Vec<u8>)> {
+    let mut classes = vec![
+        ("tiny".to_string(), files::tiny()),
+        ("typical".to_string(), files::typical()),
+        ("largest".to_string(), files::largest()),
+        ("varied".to_string(), files::varied()),
+        ("refused by 11".to_string(), files::refused_states()),
+    ];
+    classes.extend(refused_by(&FILE_CHECKS).zip(files::refused_early()));
+    classes
 }
 
 fn table(lines: &mut Lines) {
     lines.heading("Table");
     let (mut area, mut other_area) = (vec![0; AREA_LENGTH], vec![0; AREA_LENGTH]);
-    for (name, files) in &file_classes() {
+    for (name, file) in &file_classes() {
         let (mut numbers, mut other) = ([7; TABLE_LENGTH], [7; TABLE_LENGTH]);
-        for file in files {
-            let expected = plain::table(file, &mut area, &mut numbers);
-            assert_eq!(expected, proved::table(file, &mut other_area, &mut other), "{name}");
-            assert_eq!(numbers, other, "{name}");
-        }
+        let expected = plain::table(file, &mut area, &mut numbers);
+        assert_eq!(expected, proved::table(file, &mut other_area, &mut other), "{name}");
+        assert_eq!(numbers, other, "{name}");
         lines.line(
             name,
-            files,
+            file,
             |file| plain::table(file, &mut area, &mut numbers),
             |file| proved::table(file, &mut other_area, &mut other),
         );
@@ -100,20 +105,18 @@ fn table(lines: &mut Lines) {
 fn states(lines: &mut Lines) {
     lines.heading("States");
     let (mut area, mut other) = (vec![0; AREA_LENGTH], vec![0; AREA_LENGTH]);
-    for (name, files) in &file_classes() {
-        for file in files {
-            area.fill(7);
-            other.fill(7);
-            let task = files::last_task(file);
-            let expected = plain::states(file, task, &mut area);
-            assert_eq!(expected, proved::states(file, task, &mut other), "{name}");
-            assert!(area == other, "{name}");
-        }
+    for (name, file) in &file_classes() {
+        area.fill(7);
+        other.fill(7);
+        let task = files::last_task(file);
+        let expected = plain::states(file, task, &mut area);
+        assert_eq!(expected, proved::states(file, task, &mut other), "{name}");
+        assert!(area == other, "{name}");
         lines.line(
             name,
-            files,
-            |file| plain::states(file, files::last_task(file), &mut area),
-            |file| proved::states(file, files::last_task(file), &mut other),
+            file,
+            |file| plain::states(file, task, &mut area),
+            |file| proved::states(file, task, &mut other),
         );
     }
 }
@@ -121,49 +124,48 @@ fn states(lines: &mut Lines) {
 /// A file and a sheet.
 type Replayed = (Vec<u8>, Vec<u16>);
 
-fn replay_classes() -> [(&'static str, Vec<Replayed>); 5] {
+fn replay_classes() -> Vec<(String, Replayed)> {
     let early = files::refused_early().into_iter().map(|file| (file, files::typical_sheet()));
     let sheets = files::refused_sheets().into_iter().map(|sheet| (files::largest(), sheet));
-    [
-        ("tiny", vec![(files::tiny(), files::tiny_sheet())]),
-        ("typical", vec![(files::typical(), files::typical_sheet())]),
-        ("largest", vec![(files::largest(), files::largest_sheet())]),
-        ("refused early", early.collect()),
-        ("refused by sheet", sheets.collect()),
-    ]
+    let mut classes = vec![
+        ("tiny".to_string(), (files::tiny(), files::tiny_sheet())),
+        ("typical".to_string(), (files::typical(), files::typical_sheet())),
+        ("largest".to_string(), (files::largest(), files::largest_sheet())),
+    ];
+    classes.extend(refused_by(&FILE_CHECKS).zip(early));
+    classes.extend(refused_by(&SHEET_CHECKS).zip(sheets));
+    classes
 }
 
 fn replay(lines: &mut Lines) {
     lines.heading("Replay");
-    for (name, inputs) in &replay_classes() {
-        for (file, sheet) in inputs {
-            assert_eq!(plain::replay(file, sheet), proved::replay(file, sheet), "{name}");
-        }
-        lines.line(name, inputs, |(file, sheet)| plain::replay(file, sheet), |(file, sheet)| proved::replay(file, sheet));
+    for (name, input) in &replay_classes() {
+        let (file, sheet) = input;
+        assert_eq!(plain::replay(file, sheet), proved::replay(file, sheet), "{name}");
+        lines.line(name, input, |(file, sheet)| plain::replay(file, sheet), |(file, sheet)| proved::replay(file, sheet));
     }
 }
 
-fn write_classes() -> [(&'static str, Vec<Parts>); 4] {
-    [
-        ("tiny", vec![files::parts(&files::tiny())]),
-        ("typical", vec![files::parts(&files::typical())]),
-        ("largest", vec![files::parts(&files::largest())]),
-        ("refused early", files::refused_parts()),
-    ]
+fn write_classes() -> Vec<(String, Parts)> {
+    let mut classes = vec![
+        ("tiny".to_string(), files::parts(&files::tiny())),
+        ("typical".to_string(), files::parts(&files::typical())),
+        ("largest".to_string(), files::parts(&files::largest())),
+    ];
+    classes.extend(refused_by(&WRITER_CHECKS).zip(files::refused_parts()));
+    classes
 }
 
 fn write(lines: &mut Lines) {
     lines.heading("Writer");
-    for (name, inputs) in &write_classes() {
+    for (name, p) in &write_classes() {
         let (mut out, mut other) = (vec![7; 8000], vec![7; 8000]);
-        for p in inputs {
-            let expected = plain::write(p.n, &p.bodies, &p.lengths, &mut out[..p.room]);
-            assert_eq!(expected, proved::write(p.n, &p.bodies, &p.lengths, &mut other[..p.room]), "{name}");
-            assert!(out == other, "{name}");
-        }
+        let expected = plain::write(p.n, &p.bodies, &p.lengths, &mut out[..p.room]);
+        assert_eq!(expected, proved::write(p.n, &p.bodies, &p.lengths, &mut other[..p.room]), "{name}");
+        assert!(out == other, "{name}");
         lines.line(
             name,
-            inputs,
+            p,
             |p| plain::write(p.n, &p.bodies, &p.lengths, &mut out[..p.room]),
             |p| proved::write(p.n, &p.bodies, &p.lengths, &mut other[..p.room]),
         );
@@ -173,17 +175,17 @@ fn write(lines: &mut Lines) {
 /// The inputs that are to be refused fail the checks that they are made for.
 fn refused_as_meant() {
     let failed: Vec<u8> = files::refused_early().iter().map(|f| plain::replay(f, &[]).unwrap_err().0).collect();
-    assert_eq!(failed, [2, 3, 4, 5, 6, 7, 8, 9, 10]);
+    assert_eq!(failed, FILE_CHECKS);
     let file = files::refused_states();
     assert_eq!(plain::states(&file, files::last_task(&file), &mut [0; AREA_LENGTH]), Err((11, 7)));
     let file = files::largest();
     let failed: Vec<u8> = files::refused_sheets().iter().map(|s| plain::replay(&file, s).unwrap_err().0).collect();
-    assert_eq!(failed, [12, 13]);
+    assert_eq!(failed, SHEET_CHECKS);
     let failed: Vec<u8> = files::refused_parts()
         .iter()
         .map(|p| plain::write(p.n, &p.bodies, &p.lengths, &mut vec![0; p.room]).unwrap_err().0)
         .collect();
-    assert_eq!(failed, [5, 6, 7, 8, 9, 10, 14]);
+    assert_eq!(failed, WRITER_CHECKS);
 }
 
 /// The other inputs are accepted, and the writer gives back the files that its parts are made from.

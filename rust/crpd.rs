@@ -21,11 +21,13 @@ pub struct Refusal {
 }
 
 impl Refusal {
+    #[inline]
     fn new(check: u8, task: u8) -> Refusal {
         Refusal { check, task: (task != NO_TASK).then_some(task) }
     }
 
     /// The check and the task as two numbers, with 255 for no task.
+    #[inline]
     pub fn numbers(self) -> (u8, u8) {
         (self.check, self.task.unwrap_or(NO_TASK))
     }
@@ -56,11 +58,13 @@ pub struct Misses {
 }
 
 /// `done` where the status is 0, else the refusal.
+#[inline]
 fn result<T>(status: u8, task: u8, done: T) -> Result<T, Refusal> {
     if status == 0 { Ok(done) } else { Err(Refusal::new(status, task)) }
 }
 
 /// Reader: checks 2 to 10.
+#[inline]
 pub fn read(file: &[u8]) -> Result<Head, Refusal> {
     let mut answer = [0; 3];
     let status = calls::read(file, &mut answer);
@@ -69,6 +73,7 @@ pub fn read(file: &[u8]) -> Result<Head, Refusal> {
 }
 
 /// Body: that part of the file, empty if the file isn't accepted or the task isn't below t.
+#[inline]
 pub fn body(file: &[u8], task: usize) -> &[u8] {
     let mut found = [0; 2];
     calls::body(file, task, &mut found);
@@ -77,6 +82,7 @@ pub fn body(file: &[u8], task: usize) -> &[u8] {
 
 /// States: checks 1 to 10, 15, and 11 for this task. The area gets the states; after a refusal it holds zeros, except
 /// after 1, which changes nothing.
+#[inline]
 pub fn states(file: &[u8], task: usize, area: &mut [u16]) -> Result<(), Refusal> {
     let mut named = [0; 1];
     let status = calls::states(file, task, area, &mut named);
@@ -84,6 +90,7 @@ pub fn states(file: &[u8], task: usize, area: &mut [u16]) -> Result<(), Refusal>
 }
 
 /// Row: that part of the area, empty if there is no such row.
+#[inline]
 pub fn row(area: &[u16], live: bool, block: usize, number: usize) -> &[u16] {
     let mut found = [0; 2];
     calls::row(area, u8::from(live), block, number, &mut found);
@@ -92,6 +99,7 @@ pub fn row(area: &[u16], live: bool, block: usize, number: usize) -> &[u16] {
 
 /// Table: checks 1 to 11. The table gets the pair numbers, and keeps its contents after a refusal; what the area holds
 /// afterwards is free.
+#[inline]
 pub fn table(file: &[u8], area: &mut [u16], numbers: &mut [u16]) -> Result<(), Refusal> {
     let mut named = [0; 1];
     let status = calls::table(file, area, numbers, &mut named);
@@ -99,6 +107,7 @@ pub fn table(file: &[u8], area: &mut [u16], numbers: &mut [u16]) -> Result<(), R
 }
 
 /// Replay: checks 2 to 10, 12 and 13.
+#[inline]
 pub fn replay(file: &[u8], sheet: &[u16]) -> Result<Misses, Refusal> {
     let mut answer = [0; 3];
     let status = calls::replay(file, sheet, &mut answer);
@@ -108,6 +117,7 @@ pub fn replay(file: &[u8], sheet: &[u16]) -> Result<Misses, Refusal> {
 }
 
 /// Writer: checks 5 to 10 and 14. The front of the out list gets the file, whose length is answered.
+#[inline]
 pub fn write(n: u8, bodies: &[u8], lengths: &[usize], out: &mut [u8]) -> Result<usize, Refusal> {
     let mut answer = [0; 2];
     let status = calls::write(n, bodies, lengths, out, &mut answer);
@@ -148,14 +158,17 @@ pub mod calls {
     // In each call below the pointers and the numbers of elements are those of slices, and slices that are written to
     // overlap no other.
 
+    #[inline]
     pub fn read(file: &[u8], answer: &mut [u8]) -> u8 {
         unsafe { crpd_read(file.as_ptr(), file.len(), answer.as_mut_ptr(), answer.len()) }
     }
 
+    #[inline]
     pub fn body(file: &[u8], task: usize, found: &mut [usize]) -> u8 {
         unsafe { crpd_body(file.as_ptr(), file.len(), task, found.as_mut_ptr(), found.len()) }
     }
 
+    #[inline]
     pub fn states(file: &[u8], task: usize, area: &mut [u16], named: &mut [u8]) -> u8 {
         unsafe {
             crpd_states(
@@ -164,10 +177,12 @@ pub mod calls {
         }
     }
 
+    #[inline]
     pub fn row(area: &[u16], live: u8, block: usize, number: usize, found: &mut [usize]) -> u8 {
         unsafe { crpd_row(area.as_ptr(), area.len(), live, block, number, found.as_mut_ptr(), found.len()) }
     }
 
+    #[inline]
     pub fn table(file: &[u8], area: &mut [u16], numbers: &mut [u16], named: &mut [u8]) -> u8 {
         unsafe {
             crpd_table(
@@ -177,6 +192,7 @@ pub mod calls {
         }
     }
 
+    #[inline]
     pub fn replay(file: &[u8], sheet: &[u16], answer: &mut [u32]) -> u8 {
         unsafe {
             crpd_replay(
@@ -185,6 +201,7 @@ pub mod calls {
         }
     }
 
+    #[inline]
     pub fn write(n: u8, bodies: &[u8], lengths: &[usize], out: &mut [u8], answer: &mut [usize]) -> u8 {
         unsafe {
             crpd_write(

@@ -17,14 +17,14 @@ const MOST_STATES: usize = 32;
 
 /// The check that fails first and the task it names.
 pub type Refusal = (u8, u8);
-type Row = Vec<u16>;
+pub type Row = Vec<u16>;
 
-struct Block {
+pub struct Block {
     successors: Vec<usize>,
     references: Vec<u16>,
 }
 
-type Task = Vec<Block>;
+pub type Task = Vec<Block>;
 
 fn number(bytes: &[u8], at: usize) -> usize {
     bytes[at] as usize + 256 * bytes[at + 1] as usize
@@ -92,7 +92,7 @@ fn all_on_paths(task: &Task) -> bool {
 }
 
 /// Checks 2 to 10: n and the tasks of a file.
-fn read(file: &[u8]) -> Result<(usize, Vec<Task>), Refusal> {
+pub fn read(file: &[u8]) -> Result<(usize, Vec<Task>), Refusal> {
     if file.len() < 8 || 7544 < file.len() {
         return Err((2, 255));
     }
@@ -187,14 +187,14 @@ fn before(n: usize, row: &Row, block: &Block) -> Row {
     row
 }
 
-fn reaching(n: usize, task: &Task) -> Option<Vec<BTreeSet<Row>>> {
+pub fn reaching(n: usize, task: &Task) -> Option<Vec<BTreeSet<Row>>> {
     let empty = vec![NOTHING; n];
     gather(task.len(), (0, after(n, &empty, &task[0])), |b, row| {
         task[b].successors.iter().map(|&c| (c, after(n, row, &task[c]))).collect()
     })
 }
 
-fn live(n: usize, task: &Task) -> Option<Vec<BTreeSet<Row>>> {
+pub fn live(n: usize, task: &Task) -> Option<Vec<BTreeSet<Row>>> {
     let back = predecessors(task);
     gather(task.len(), (task.len() - 1, vec![NOTHING; n]), |b, row| {
         let new = before(n, row, &task[b]);

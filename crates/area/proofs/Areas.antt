@@ -10,7 +10,7 @@ use lib.ListN.{length, getD}
 use lib.Seq.{ext-getD}
 use borrow.Author.Tests.{ltb-true, ltb-false}
 use Rattle.model.specs.Computed.{sorted}
-use Rattle.rows.specs.Rows.{rowsOf, partOf}
+use Rattle.rows.specs.Rows.{Width, rowsOf, partOf, kindLength}
 use Rattle.gather.specs.Graph.{tooMany}
 use Rattle.gather.specs.Gathered.{GatheredRows}
 use Rattle.gather.proofs.Gathering.{many-before}
@@ -40,26 +40,28 @@ few-rows all none b h = go (ltb 32 (length (all b))) refl
 
 -- ---- one kind of rows
 
-pub record Held (all : ℕ → List (List ℕ)) (rows counts : List ℕ) : Type 0 where
-  pub long : length rows ≡ 12288
+pub record Held (w : ℕ) (all : ℕ → List (List ℕ)) (rows counts : List ℕ) : Type 0 where
+  pub width : Width w
+  pub long : length rows ≡ kindLength w
   pub many : length counts ≡ 24
   pub none : tooMany all 24 ≡ false
-  pub each : (b : ℕ) → b < 24 → GatheredRows all rows counts b
+  pub each : (b : ℕ) → b < 24 → GatheredRows w all rows counts b
 
-module _ (all : ℕ → List (List ℕ)) (rows counts : List ℕ) (held : Held all rows counts) where
-  sorted-all : (b : ℕ) → b < 24 → sortedRows rows counts b ≡ all b
-  sorted-all b h = ap (λ (k : ℕ). sorted (rowsOf 16 k (partOf 16 rows b))) (held .each b h .count) ∙ held .each b h .list
+module _ {w : ℕ} (all : ℕ → List (List ℕ)) (rows counts : List ℕ) (held : Held w all rows counts) where
+  sorted-all : (b : ℕ) → b < 24 → sortedRows w rows counts b ≡ all b
+  sorted-all b h = ap (λ (k : ℕ). sorted (rowsOf w k (partOf w rows b))) (held .each b h .count) ∙ held .each b h .list
 
-  pub kind-distinct : Distinct rows counts
+  pub kind-distinct : Distinct w rows counts
   kind-distinct =
       record {
+        width = held .width;
         long = held .long;
         counts24 = record { many = held .many; few = λ b h. omega (arith, few-rows all (held .none) b h, held .each b h .count) };
         once = λ b h. ap length (sorted-all b h) ∙ sym (held .each b h .count);
       }
 
-  pub kind-parts : blockParts 16 (sortedRows rows counts) 24 0 ≡ blockParts 16 all 24 0
-  kind-parts = parts-same 16 (sortedRows rows counts) all 24 0 (λ b h. sorted-all b (omega arith))
+  pub kind-parts : blockParts w (sortedRows w rows counts) 24 0 ≡ blockParts w all 24 0
+  kind-parts = parts-same w (sortedRows w rows counts) all 24 0 (λ b h. sorted-all b (omega arith))
 
   pub kind-counts : counts ≡ countsFrom all 24 0
   kind-counts =

@@ -1,8 +1,9 @@
 -- The rows of 24 blocks sorted part by part, and the counts written beside them.
--- The parts of the first b blocks are done and 512 b numbers long; the part of block b is the one that is lent next.
+-- The parts of the first b blocks are done and 32 w b numbers long; the part of block b is the one that is lent next.
 use mathlib.Core.Path.{_≡_, refl, sym, ap, ap₂, subst, _∙_}
 use mathlib.Core.List.{List, [], _++_, append-nil, append-assoc}
 use Prim.Native.Nat.{ℕ, zero, suc, _+_, _-_, _*_, _≤_, _<_}
+use native.Mathlib.Nat.{sub-zero, mul-zero, mul-le-mul-left}
 use native.Mathlib.Numerals.{add-one}
 use native.Mathlib.Omega.{arith}
 use lib.ListN.{length, getD, take, drop, replicate, length-append, length-drop, length-replicate, take-append-drop, drop-of-length-le}
@@ -10,12 +11,14 @@ use lib.Seq.{drop-drop, length-take-le}
 use borrow.Rule.Slice.PartMut.{putMid}
 use Rattle.cache.specs.References.{nothing}
 use Rattle.model.specs.Computed.{sorted}
-use Rattle.rows.specs.Rows.{rowsOf, partOf, flat}
+use Rattle.rows.specs.Rows.{Width, rowsOf, partOf, flat, kindLength, countStart, areaLength}
+use Rattle.rows.proofs.Parts.{next-row, after-first, row-within}
 use Rattle.gather.specs.Memory.{heldRows}
 use Rattle.sort.specs.Sorting.{blockPart}
 use Rattle.area.specs.Area.{blockParts}
 use Rattle.area.specs.Kinds.{sortedRows, Distinct, sortedArea}
-use Rattle.sort.proofs.Sorted.{mid-lent, mid-back, Sixteen, rows-sixteen, sorted-sixteen, flat-length}
+use Rattle.sort.proofs.Sorted.{mid-lent, mid-back, Wide, rows-wide, sorted-wide, flat-length}
+use Rattle.sort.proofs.Insertion.{lent-part}
 
 -- ---- a list that is done up to `at`, whose next part is lent and comes back as `new`
 
@@ -36,14 +39,15 @@ module _ (front l : List ℕ) (at size next : ℕ) (long : length front ≡ at) 
 
 -- ---- the parts of several blocks
 
-pub part-length : (rows : List (List ℕ)) → Sixteen rows → length rows ≤ 32 → length (blockPart 16 rows) ≡ 512
-part-length rows s h =
-    length-append (flat rows) (replicate (512 - length (flat rows)) nothing) ∙ rw (length-replicate (512 - length (flat rows)) nothing) (omega (arith, flat-length rows s))
+pub part-length : (w : ℕ) (rows : List (List ℕ)) → Wide w rows → length rows ≤ 32 → length (blockPart w rows) ≡ 32 * w
+part-length w rows s h =
+    let few : w * length rows ≤ w * 32 = mul-le-mul-left w h in
+    length-append (flat rows) (replicate (32 * w - length (flat rows)) nothing) ∙ rw (length-replicate (32 * w - length (flat rows)) nothing) (omega (arith, flat-length w rows s))
 
-pub parts-length : (f : ℕ → List (List ℕ)) (n b : ℕ) → ((j : ℕ) → j < b + n → length (blockPart 16 (f j)) ≡ 512) → length (blockParts 16 f n b) ≡ 512 * n
-parts-length f zero b h = refl
-parts-length f (suc n) b h =
-    length-append (blockPart 16 (f b)) (blockParts 16 f n (suc b)) ∙ omega (arith, h b (omega arith), parts-length f n (suc b) (λ j l. h j (omega arith)))
+pub parts-length : (w : ℕ) (f : ℕ → List (List ℕ)) (n b : ℕ) → ((j : ℕ) → j < b + n → length (blockPart w (f j)) ≡ 32 * w) → length (blockParts w f n b) ≡ 32 * w * n
+parts-length w f zero b h = sym (mul-zero (32 * w))
+parts-length w f (suc n) b h =
+    length-append (blockPart w (f b)) (blockParts w f n (suc b)) ∙ omega (arith, h b (omega arith), parts-length w f n (suc b) (λ j l. h j (omega arith)), after-first (32 * w) n)
 
 parts-snoc : (w : ℕ) (f : ℕ → List (List ℕ)) (n b : ℕ) → blockParts w f (suc n) b ≡ blockParts w f n b ++ blockPart w (f (b + n))
 parts-snoc w f zero b = let e : b + 0 ≡ b = omega arith in append-nil (blockPart w (f b)) ∙ ap (λ (j : ℕ). blockPart w (f j)) (sym e)
@@ -61,58 +65,70 @@ parts-same w f g (suc n) b h =
 -- ---- the loop over the blocks
 
 -- the parts of b blocks are sorted
-abbrev pub blocksDone : List ℕ → List ℕ → ℕ → List ℕ
-blocksDone rows counts b = blockParts 16 (sortedRows rows counts) b 0 ++ drop (512 * b) rows
+abbrev pub blocksDone : ℕ → List ℕ → List ℕ → ℕ → List ℕ
+blocksDone w rows counts b = blockParts w (sortedRows w rows counts) b 0 ++ drop (32 * w * b) rows
 
-module _ (rows counts : List ℕ) (input : Distinct rows counts) where
-  held-part : (b : ℕ) → b < 24 → length (partOf 16 rows b) ≡ 512
-  held-part b h = length-take-le 512 (drop (512 * b) rows) (simp length-drop (omega (arith, input .long)))
+pub blocks-start : (w : ℕ) (rows counts : List ℕ) → rows ≡ blocksDone w rows counts 0
+blocks-start w rows counts = rw (mul-zero (32 * w))
 
-  done-part : (b : ℕ) → b < 24 → length (blockPart 16 (sortedRows rows counts b)) ≡ 512
+module _ {w : ℕ} (rows counts : List ℕ) (input : Distinct w rows counts) where
+  -- the part of block b ends within the rows
+  pub part-ends : (b : ℕ) → b < 24 → 32 * w * b + 32 * w ≤ length rows
+  part-ends b h = omega (arith, row-within (32 * w) b 24 h, input .long)
+
+  held-part : (b : ℕ) → b < 24 → length (partOf w rows b) ≡ 32 * w
+  held-part b h = length-take-le (32 * w) (drop (32 * w * b) rows) (simp length-drop (omega (arith, part-ends b h)))
+
+  done-part : (b : ℕ) → b < 24 → length (blockPart w (sortedRows w rows counts b)) ≡ 32 * w
   done-part b h =
-      part-length (sortedRows rows counts b)
-      (sorted-sixteen (heldRows rows counts b) (rows-sixteen (getD counts b 0) (partOf 16 rows b) (omega (arith, held-part b h, input .counts24 .few b h))))
+      let few : w * getD counts b 0 ≤ w * 32 = mul-le-mul-left w (input .counts24 .few b h) in
+      part-length w (sortedRows w rows counts b)
+      (sorted-wide w (heldRows w rows counts b) (rows-wide w (getD counts b 0) (partOf w rows b) (omega (arith, held-part b h))))
       (omega (arith, input .once b h, input .counts24 .few b h))
 
-  module _ (b : ℕ) (inside : b < 24) {now : List ℕ} (is : now ≡ blocksDone rows counts b) where
-    front-long : length (blockParts 16 (sortedRows rows counts) b 0) ≡ 512 * b
-    front-long = parts-length (sortedRows rows counts) b 0 (λ j l. done-part j (omega arith))
+  module _ (b : ℕ) (inside : b < 24) {now : List ℕ} (is : now ≡ blocksDone w rows counts b) where
+    abbrev at : ℕ
+    at = 32 * w * b
 
-    next : 512 * (b + 1) ≡ 512 * b + (512 * b + 512 - 512 * b)
-    next = omega arith
+    front-long : length (blockParts w (sortedRows w rows counts) b 0) ≡ at
+    front-long = parts-length w (sortedRows w rows counts) b 0 (λ j l. done-part j (omega arith))
 
-    block-lent : take (512 * b + 512 - 512 * b) (drop (512 * b) now) ≡ partOf 16 rows b
-    block-lent =
-        let size : 512 * b + 512 - 512 * b ≡ 512 = omega arith in
-        next-lent (blockParts 16 (sortedRows rows counts) b 0) rows (512 * b) (512 * b + 512 - 512 * b) (512 * (b + 1)) front-long (omega (arith, input .long)) next is
-        ∙ ap (λ (k : ℕ). take k (drop (512 * b) rows)) size
+    next : 32 * w * (b + 1) ≡ at + (at + 32 * w - at)
+    next = omega (arith, next-row (32 * w) b)
+
+    ends : 32 * w * (b + 1) ≤ length rows
+    ends = omega (arith, part-ends b inside, next-row (32 * w) b)
+
+    block-lent : take (at + 32 * w - at) (drop at now) ≡ partOf w rows b
+    block-lent = next-lent (blockParts w (sortedRows w rows counts) b 0) rows at (at + 32 * w - at) (32 * w * (b + 1)) front-long ends next is ∙ lent-part at (32 * w) rows
 
     -- what sorting the lent part asks for
-    pub lent-rows : (length (take (512 * b + 512 - 512 * b) (drop (512 * b) now)) ≡ 512) × (getD counts b 0 ≤ 32)
-        × (length (sorted (rowsOf 16 (getD counts b 0) (take (512 * b + 512 - 512 * b) (drop (512 * b) now)))) ≡ getD counts b 0)
+    pub lent-rows : Width w × (length (take (at + 32 * w - at) (drop at now)) ≡ 32 * w) × (getD counts b 0 ≤ 32)
+        × (length (sorted (rowsOf w (getD counts b 0) (take (at + 32 * w - at) (drop at now)))) ≡ getD counts b 0)
     lent-rows = (
+      input .width,
       ap length block-lent ∙ held-part b inside,
       input .counts24 .few b inside,
-      ap (λ (x : List ℕ). length (sorted (rowsOf 16 (getD counts b 0) x))) block-lent ∙ input .once b inside,
+      ap (λ (x : List ℕ). length (sorted (rowsOf w (getD counts b 0) x))) block-lent ∙ input .once b inside,
     )
 
-    pub block-turn : {new : List ℕ} → new ≡ blockPart 16 (sorted (rowsOf 16 (getD counts b 0) (take (512 * b + 512 - 512 * b) (drop (512 * b) now))))
-        → putMid (512 * b) (512 * b + 512 - 512 * b) now new ≡ blocksDone rows counts (b + 1)
+    pub block-turn : {new : List ℕ} → new ≡ blockPart w (sorted (rowsOf w (getD counts b 0) (take (at + 32 * w - at) (drop at now))))
+        → putMid at (at + 32 * w - at) now new ≡ blocksDone w rows counts (b + 1)
     block-turn e =
         let zeroth : 0 + b ≡ b = omega arith in
-        let more : blockParts 16 (sortedRows rows counts) (b + 1) 0 ≡ blockParts 16 (sortedRows rows counts) b 0 ++ blockPart 16 (sortedRows rows counts b) =
-        ap (λ (k : ℕ). blockParts 16 (sortedRows rows counts) k 0) (add-one b) ∙ parts-snoc 16 (sortedRows rows counts) b 0
-        ∙ ap (λ (k : ℕ). blockParts 16 (sortedRows rows counts) b 0 ++ blockPart 16 (sortedRows rows counts k)) zeroth in
-        next-back (blockParts 16 (sortedRows rows counts) b 0) rows (512 * b) (512 * b + 512 - 512 * b) (512 * (b + 1)) front-long (omega (arith, input .long)) next is
-        (e ∙ ap (λ (x : List ℕ). blockPart 16 (sorted (rowsOf 16 (getD counts b 0) x))) block-lent)
-        ∙ ap (λ (x : List ℕ). x ++ drop (512 * (b + 1)) rows) (sym more)
+        let more : blockParts w (sortedRows w rows counts) (b + 1) 0 ≡ blockParts w (sortedRows w rows counts) b 0 ++ blockPart w (sortedRows w rows counts b) =
+        ap (λ (k : ℕ). blockParts w (sortedRows w rows counts) k 0) (add-one b) ∙ parts-snoc w (sortedRows w rows counts) b 0
+        ∙ ap (λ (k : ℕ). blockParts w (sortedRows w rows counts) b 0 ++ blockPart w (sortedRows w rows counts k)) zeroth in
+        next-back (blockParts w (sortedRows w rows counts) b 0) rows at (at + 32 * w - at) (32 * w * (b + 1)) front-long ends next is
+        (e ∙ ap (λ (x : List ℕ). blockPart w (sorted (rowsOf w (getD counts b 0) x))) block-lent)
+        ∙ ap (λ (x : List ℕ). x ++ drop (32 * w * (b + 1)) rows) (sym more)
 
-  pub blocks-length : length (blockParts 16 (sortedRows rows counts) 24 0) ≡ 12288
-  blocks-length = parts-length (sortedRows rows counts) 24 0 (λ j l. done-part j (omega arith))
+  pub blocks-length : length (blockParts w (sortedRows w rows counts) 24 0) ≡ kindLength w
+  blocks-length = parts-length w (sortedRows w rows counts) 24 0 (λ j l. done-part j (omega arith)) ∙ omega arith
 
-  pub blocks-end : (b : ℕ) → b ≡ 24 → {now : List ℕ} → now ≡ blocksDone rows counts b → now ≡ blockParts 16 (sortedRows rows counts) 24 0
+  pub blocks-end : (b : ℕ) → b ≡ 24 → {now : List ℕ} → now ≡ blocksDone w rows counts b → now ≡ blockParts w (sortedRows w rows counts) 24 0
   blocks-end b e q =
-      q ∙ ap₂ (λ (k : ℕ) (x : List ℕ). blockParts 16 (sortedRows rows counts) k 0 ++ x) e (drop-of-length-le rows {i = 512 * b} (omega (arith, input .long))) ∙ append-nil (blockParts 16 (sortedRows rows counts) 24 0)
+      q ∙ rw (e, drop-of-length-le rows {i = 32 * w * 24} (omega (arith, input .long))) (append-nil (blockParts w (sortedRows w rows counts) 24 0))
 
 -- ---- the counts
 
@@ -141,40 +157,62 @@ module _ (part reaching live : List ℕ) (long : length part ≡ 256) (r : lengt
 
 -- ---- the whole area
 
-module _ (area reaching live : List ℕ) (long : length area ≡ 24832) (r : Distinct (take 12288 area) reaching) (l : Distinct (take 12288 (drop 12288 area)) live) where
+module _ {w : ℕ} (area reaching live : List ℕ) (long : length area ≡ areaLength w)
+    (r : Distinct w (take (kindLength w) area) reaching) (l : Distinct w (take (kindLength w) (drop (kindLength w) area)) live) where
+  abbrev kind : ℕ
+  kind = kindLength w
+
+  abbrev counts : ℕ
+  counts = countStart w
+
   abbrev reached : List ℕ
-  reached = blockParts 16 (sortedRows (take 12288 area) reaching) 24 0
+  reached = blockParts w (sortedRows w (take kind area) reaching) 24 0
 
   abbrev lived : List ℕ
-  lived = blockParts 16 (sortedRows (take 12288 (drop 12288 area)) live) 24 0
+  lived = blockParts w (sortedRows w (take kind (drop kind area)) live) 24 0
+
+  pub reaching-distinct : Distinct w (take (kind - 0) (drop 0 area)) reaching
+  reaching-distinct = rw (sub-zero kind) r
 
   -- the reaching rows have come back as a
-  module _ {a : List ℕ} (e : a ≡ reached) where
+  module _ {a : List ℕ} (e : a ≡ blockParts w (sortedRows w (take (kind - 0) (drop 0 area)) reaching) 24 0) where
     abbrev first : List ℕ
-    first = putMid 0 12288 area a
+    first = putMid 0 (kind - 0) area a
 
-    first-done : first ≡ reached ++ drop 12288 area
-    first-done = next-back [] area 0 12288 12288 refl (omega arith) refl refl e
+    first-done : first ≡ reached ++ drop kind area
+    first-done =
+        let made : a ≡ reached = e ∙ rw (sub-zero kind) in
+        next-back [] area 0 (kind - 0) kind refl (omega arith) (omega arith) refl made
 
-    live-lent : take 12288 (drop 12288 first) ≡ take 12288 (drop 12288 area)
-    live-lent = next-lent reached area 12288 12288 24576 (blocks-length (take 12288 area) reaching r) (omega arith) refl first-done
+    live-lent : take (counts - kind) (drop kind first) ≡ take kind (drop kind area)
+    live-lent =
+        let size : counts - kind ≡ kind = omega arith in
+        next-lent reached area kind (counts - kind) counts (blocks-length (take kind area) reaching r) (omega arith) (omega arith) first-done ∙ rw size
 
-    pub live-distinct : Distinct (take 12288 (drop 12288 first)) live
-    live-distinct = subst (λ (x : List ℕ). Distinct x live) (sym live-lent) l
+    pub live-distinct : Distinct w (take (counts - kind) (drop kind first)) live
+    live-distinct = subst (λ (x : List ℕ). Distinct w x live) (sym live-lent) l
 
     -- the live rows have come back as b
-    module _ {b : List ℕ} (f : b ≡ blockParts 16 (sortedRows (take 12288 (drop 12288 first)) live) 24 0) where
+    module _ {b : List ℕ} (f : b ≡ blockParts w (sortedRows w (take (counts - kind) (drop kind first)) live) 24 0) where
       abbrev second : List ℕ
-      second = putMid 12288 12288 first b
+      second = putMid kind (counts - kind) first b
 
-      second-done : second ≡ (reached ++ lived) ++ drop 24576 area
+      second-done : second ≡ (reached ++ lived) ++ drop counts area
       second-done =
-          next-back reached area 12288 12288 24576 (blocks-length (take 12288 area) reaching r) (omega arith) refl first-done
-          (f ∙ ap (λ (x : List ℕ). blockParts 16 (sortedRows x live) 24 0) live-lent)
+          next-back reached area kind (counts - kind) counts (blocks-length (take kind area) reaching r) (omega arith) (omega arith) first-done
+          (f ∙ ap (λ (x : List ℕ). blockParts w (sortedRows w x live) 24 0) live-lent)
 
-      pub area-sorted : {z : List ℕ} → z ≡ reaching ++ (live ++ replicate 208 0) → putMid 24576 256 second z ≡ sortedArea area reaching live
+      both : length (reached ++ lived) ≡ counts
+      both = length-append reached lived ∙ omega (arith, blocks-length (take kind area) reaching r, blocks-length (take kind (drop kind area)) live l)
+
+      pub counts-lent : length (take (counts + 256 - counts) (drop counts second)) ≡ 256
+      counts-lent =
+          let size : counts + 256 - counts ≡ 256 = omega arith in
+          ap length (next-lent (reached ++ lived) area counts (counts + 256 - counts) (areaLength w) both (omega arith) (omega arith) second-done)
+          ∙ rw size (length-take-le 256 (drop counts area) (simp length-drop (omega arith)))
+
+      pub area-sorted : {z : List ℕ} → z ≡ reaching ++ (live ++ replicate 208 0) → putMid counts (counts + 256 - counts) second z ≡ sortedArea w area reaching live
       unfolding sortedArea
       area-sorted q =
-          let both : length (reached ++ lived) ≡ 24576 = length-append reached lived ∙ omega (arith, blocks-length (take 12288 area) reaching r, blocks-length (take 12288 (drop 12288 area)) live l) in
-          next-back (reached ++ lived) area 24576 256 24832 both (omega arith) refl second-done q
-          ∙ rw (drop-of-length-le area {i = 24832} (omega arith), append-nil (reached ++ lived ++ (reaching ++ (live ++ replicate 208 0)))) (append-assoc reached lived (reaching ++ (live ++ replicate 208 0)))
+          next-back (reached ++ lived) area counts (counts + 256 - counts) (areaLength w) both (omega arith) (omega arith) second-done q
+          ∙ rw (drop-of-length-le area {i = areaLength w} (omega arith), append-nil (reached ++ lived ++ (reaching ++ (live ++ replicate 208 0)))) (append-assoc reached lived (reaching ++ (live ++ replicate 208 0)))

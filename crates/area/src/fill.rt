@@ -2,18 +2,21 @@
 ghost use mathlib.Core.Path.{_≡_};
 ghost use mathlib.Core.List.{_++_};
 ghost use lib.ListN.{length, take, drop, replicate};
+ghost use Rattle.rows.specs.Rows.{kindLength, areaLength};
 ghost use Rattle.area.specs.Area.{blockParts};
 ghost use Rattle.area.specs.Kinds.{sortedRows, Counts, Distinct, sortedArea};
 use sort::fill_with;
 use sort::sort_rows;
 
 // The rows of each of 24 blocks are put in dictionary order; unfilled rows become rows of nothings.
-pub fn sort_blocks(rows: &mut [u16], counts: &[usize])
-    requires { ⌜ Distinct (now rows) (now counts) ⌝ }
-    ensures { λ _. ⌜ now (rows .exit) ≡ blockParts 16 (sortedRows (now (rows .entry)) (now (counts .entry))) 24 0 ⌝ }
+pub fn sort_blocks(rows: &mut [u16], counts: &[usize], w: usize)
+    requires { ⌜ Distinct w (now rows) (now counts) ⌝ }
+    ensures { λ _. ⌜ now (rows .exit) ≡ blockParts w (sortedRows w (now (rows .entry)) (now (counts .entry))) 24 0 ⌝ }
 {
+    let part = 32 * w;
     for b in 0..24 {
-        sort_rows(&mut rows[512 * b..512 * b + 512], counts[b]);
+        let at = part * b;
+        sort_rows(&mut rows[at..at + part], counts[b], w);
     }
 }
 
@@ -38,11 +41,13 @@ pub fn write_counts(part: &mut [u16], reaching: &[usize], live: &[usize])
 }
 
 // The rows of an area, both kinds in any order, are put in dictionary order, and the counts are written.
-pub fn sort_area(area: &mut [u16], reaching: &[usize], live: &[usize])
-    requires { ⌜ (length (now area) ≡ 24832) × Distinct (take 12288 (now area)) (now reaching) × Distinct (take 12288 (drop 12288 (now area))) (now live) ⌝ }
-    ensures { λ _. ⌜ now (area .exit) ≡ sortedArea (now (area .entry)) (now (reaching .entry)) (now (live .entry)) ⌝ }
+pub fn sort_area(area: &mut [u16], w: usize, reaching: &[usize], live: &[usize])
+    requires { ⌜ (length (now area) ≡ areaLength w) × Distinct w (take (kindLength w) (now area)) (now reaching) × Distinct w (take (kindLength w) (drop (kindLength w) (now area))) (now live) ⌝ }
+    ensures { λ _. ⌜ now (area .exit) ≡ sortedArea w (now (area .entry)) (now (reaching .entry)) (now (live .entry)) ⌝ }
 {
-    sort_blocks(&mut area[0..12288], reaching);
-    sort_blocks(&mut area[12288..24576], live);
-    write_counts(&mut area[24576..24832], reaching, live);
+    let kind = 24 * (32 * w);
+    let counts = 2 * kind;
+    sort_blocks(&mut area[0..kind], reaching, w);
+    sort_blocks(&mut area[kind..counts], live, w);
+    write_counts(&mut area[counts..counts + 256], reaching, live);
 }

@@ -2,7 +2,7 @@
 -- The idea: `Read` is the run of `blocksFrom` as data; each fact of a decoded task is an induction on it.
 use mathlib.Core.Path.{_≡_, refl, sym, ap, _∙_}
 use mathlib.Core.Logic.{_⊎_, inl, inr}
-use mathlib.Core.Bool.{Bool, true, false, _&&_}
+use mathlib.Core.Bool.{Bool, true, false, _&&_, cond}
 use mathlib.Core.List.{List, [], _∷_, _++_, append-assoc}
 use Prim.Native.Nat.{ℕ, zero, suc, _+_, _*_, _≤_, _<_}
 use native.Mathlib.Omega.{arith}
@@ -16,7 +16,7 @@ use Rattle.model.specs.Tasks.{Block, Task, memoryBlocks}
 use Rattle.model.proofs.Membership.{both-left, both-right}
 use Rattle.model.proofs.Disjoint.{all-map}
 use Rattle.body.specs.Layout.{twoBytes, blocksBytes, bodyBytes, BlockInBounds, InBounds, Layout}
-use Rattle.body.specs.Decode.{Decoded, broken, decoded, withBlock, pickDecoded, risesBelow, allReal, blockFrom, blockTest, blocksFrom, decode}
+use Rattle.body.specs.Decode.{Decoded, broken, decoded, withBlock, risesBelow, allReal, blockFrom, blockTest, blocksFrom, decode}
 use Rattle.body.proofs.BlockParts.{length-twoBytes, numbers-twoBytes, length-numbers, twoBytes-numbers, all-take, all-drop, all-join, rises-below, below-rises, all-real, real-all}
 
 -- ---- a block's bytes, before the bytes r, are read as the block
@@ -109,7 +109,7 @@ reads B (suc left) (f ∷ sc ∷ rc ∷ rest) t e =
     go (blockTest B f sc rc rest) (blocksFrom B left (drop (sc + 2 * rc) rest)) refl refl e (reads B left (drop (sc + 2 * rc) rest))
   where
     go : (b : Bool) (d : Decoded) → blockTest B f sc rc rest ≡ b → blocksFrom B left (drop (sc + 2 * rc) rest) ≡ d
-        → pickDecoded b (withBlock (blockFrom sc rc rest) d) broken ≡ decoded t
+        → cond b (withBlock (blockFrom sc rc rest) d) broken ≡ decoded t
         → ((u : Task) → blocksFrom B left (drop (sc + 2 * rc) rest) ≡ decoded u → Read B left (drop (sc + 2 * rc) rest) u)
         → Read B (suc left) (f ∷ sc ∷ rc ∷ rest) t
     go false d p q e ih = no-task e
@@ -172,7 +172,7 @@ opened : (B z : ℕ) (s : List ℕ) (t : Task) → decode (B ∷ z ∷ s) ≡ de
 unfolding decode
 opened B z s t e = go (leb 1 B && (leb B 24 && eqb z 0)) refl e
   where
-    go : (b : Bool) → (leb 1 B && (leb B 24 && eqb z 0)) ≡ b → pickDecoded b (blocksFrom B B s) broken ≡ decoded t → Opened B z s t
+    go : (b : Bool) → (leb 1 B && (leb B 24 && eqb z 0)) ≡ b → cond b (blocksFrom B B s) broken ≡ decoded t → Opened B z s t
     go false p e = no-task e
     go true p e =
         let p1 = both-right (leb 1 B) _ p in
@@ -261,7 +261,7 @@ decoded-long [] t e = no-task e
 decoded-long (B ∷ []) t e = no-task e
 decoded-long (B ∷ z ∷ s) t e = go (leb 1 B && (leb B 24 && eqb z 0)) refl e
   where
-    go : (b : Bool) → (leb 1 B && (leb B 24 && eqb z 0)) ≡ b → pickDecoded b (blocksFrom B B s) broken ≡ decoded t → length (B ∷ z ∷ s) ≤ 938
+    go : (b : Bool) → (leb 1 B && (leb B 24 && eqb z 0)) ≡ b → cond b (blocksFrom B B s) broken ≡ decoded t → length (B ∷ z ∷ s) ≤ 938
     go false p e = no-task e
     go true p e =
         let few = leb-true B 24 (both-left (leb B 24) (eqb z 0) (both-right (leb 1 B) (leb B 24 && eqb z 0) p)) in

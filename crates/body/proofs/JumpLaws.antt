@@ -1,24 +1,31 @@
 -- The sets of successors, block by block: a turn of the loop that gathers them, and that each is below 2 ^ 24.
 -- The idea: the sets of the blocks so far, and zeros.
-use mathlib.Core.Path.{_≡_, ap, ap₂, _∙_}
-use mathlib.Core.Bool.{true}
+use mathlib.Core.Path.{_≡_, refl, sym, ap, ap₂, _∙_}
+use mathlib.Core.Bool.{Bool, true, false, false≢true}
 use mathlib.Core.List.{List, [], _∷_, _++_, map}
 use Prim.Native.Nat.{ℕ, zero, suc, _+_, _-_, _≤_, _<_}
 use native.Mathlib.Nat.{not-suc-le-zero}
 use native.Mathlib.Numerals.{add-one}
 use native.Mathlib.Omega.{arith}
-use lib.Dec.{eqb}
+use lib.Dec.{eqb, ltb}
+use borrow.Author.Tests.{ltb-true, ltb-false}
 use lib.ListN.{length, getD, set, take, replicate}
 use lib.Seq.{take-all}
 use Rattle.cache.specs.References.{All}
+use Rattle.cache.specs.Sets.{bits, inSet}
 use Rattle.cache.proofs.Bits.{bits-lt}
+use Rattle.cache.proofs.Masks.{bits-test}
+use Rattle.cache.proofs.Members.{in-empty, in-below}
 use Rattle.model.specs.Lists.{mem, Each}
 use Rattle.model.specs.Tasks.{Block, Task, block}
+use Rattle.model.proofs.Membership.{all-of}
+use Rattle.model.proofs.Paths.{successor-below}
 use Rattle.body.specs.Layout.{BlockInBounds, InBounds}
 use Rattle.body.specs.Decode.{decoded, decode, taskOf}
 use Rattle.body.specs.Walk.{keptOf, blocksOf, startsOf}
 use Rattle.body.specs.Jumps.{setOf, jumpSets}
 use Rattle.body.proofs.Decoded.{decoded-bounds}
+use Rattle.body.proofs.Turning.{no-set}
 use Rattle.body.proofs.WalksParts.{BlockParts, kept-decoded, walked-parts}
 
 -- the sets of the first b blocks, and zeros up to `all`
@@ -64,6 +71,44 @@ successors-below t h b = go t (h .each) b
     go [] e b = tt
     go (x ∷ u) e zero = wider (x .successors) (e .0 .below)
     go (x ∷ u) e (suc b) = go u (e .1) b
+
+-- ---- the set of one block, and the blocks that it has
+
+pub jump-at : (t : Task) (rest : List ℕ) (b : ℕ) → b < length t → getD (map (λ (x : Block). setOf (x .successors)) t ++ rest) b 0 ≡ setOf (block t b .successors)
+jump-at [] rest b h = absurd (not-suc-le-zero h)
+jump-at (x ∷ t) rest zero h = refl
+jump-at (x ∷ t) rest (suc b) h = jump-at t rest b (omega arith)
+
+-- a block that is not there has no successors
+beyond : (t : Task) (k b : ℕ) → length t ≤ b → getD (map (λ (x : Block). setOf (x .successors)) t ++ replicate k 0) b 0 ≡ 0
+beyond [] k b h = no-set k b
+beyond (x ∷ t) k zero h = absurd (omega arith)
+beyond (x ∷ t) k (suc b) h = beyond t k b (omega arith)
+
+module _ (t : Task) (b c : ℕ) where
+  abbrev leads : ℕ → Bool
+  leads d = mem eqb d (block t b .successors)
+
+  pub jump-has : c < 24 → leads c ≡ true → inSet (getD (jumpSets t) b 0) c ≡ true
+  jump-has h e = ap (λ (x : ℕ). inSet x c) (jump-at t (replicate (24 - length t) 0) b (successor-below t b c e)) ∙ bits-test 24 c leads h ∙ e
+
+  pub jump-only : inSet (getD (jumpSets t) b 0) c ≡ true → leads c ≡ true
+  jump-only e = go (ltb b (length t)) refl
+    where
+      go : (x : Bool) → ltb b (length t) ≡ x → leads c ≡ true
+      go true q =
+          let has : inSet (bits 24 leads) c ≡ true = sym (ap (λ (x : ℕ). inSet x c) (jump-at t (replicate (24 - length t) 0) b (ltb-true b (length t) q))) ∙ e in
+          sym (bits-test 24 c leads (in-below 24 (bits 24 leads) c (bits-lt 24 leads) has)) ∙ has
+      go false q =
+          absurd (false≢true (sym (in-empty c) ∙ sym (ap (λ (x : ℕ). inSet x c) (beyond t (24 - length t) b (ltb-false b (length t) q))) ∙ e))
+
+each-below : (B : ℕ) (t : Task) → Each (BlockInBounds B) t → (b c : ℕ) → mem eqb c (block t b .successors) ≡ true → c < B
+each-below B [] h b c e = absurd (false≢true e)
+each-below B (x ∷ t) h zero c e = all-of (λ (s : ℕ). s < B) (x .successors) (h .0 .below) c e
+each-below B (x ∷ t) h (suc b) c e = each-below B t (h .1) b c e
+
+pub jumps-inside : (t : Task) → InBounds t → (b c : ℕ) → mem eqb c (block t b .successors) ≡ true → c < length t
+jumps-inside t h = each-below (length t) t (h .each)
 
 -- ---- a body that was walked
 

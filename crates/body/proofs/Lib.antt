@@ -1,8 +1,9 @@
 pub mod BlockParts
 pub mod Decoded
-pub mod Passes
-pub mod Sweeps
+pub mod BlockSets
+pub mod Turning
 pub mod WalksBlock
 pub mod Walks
 pub mod WalksParts
 pub mod JumpLaws
+pub mod Closures

@@ -1,6 +1,6 @@
 -- Laws of the walk of a body: what the blocks passed so far and the bytes still to come say of the whole.
 use mathlib.Core.Path.{_≡_, refl, sym, ap, _∙_}
-use mathlib.Core.Bool.{Bool, true, false, _&&_}
+use mathlib.Core.Bool.{Bool, true, false, _&&_, cond}
 use mathlib.Core.List.{List, [], _∷_, _++_, append-assoc, append-nil}
 use Prim.Native.Nat.{ℕ, suc, _+_, _-_, _*_, _≤_, _<_}
 use native.Mathlib.Nat.{sub-zero}
@@ -13,10 +13,10 @@ use borrow.Author.Tests.{eq-eqb, ne-eqb, le-leb, lt-leb, leb-true, leb-false}
 use Rattle.model.specs.Tasks.{Block, Task}
 use Rattle.model.proofs.Membership.{both-left, both-right}
 use Rattle.body.specs.Layout.{blockBytes}
-use Rattle.body.specs.Decode.{Decoded, broken, decoded, withBlock, pickDecoded, blockFrom, blockTest, blocksFrom, decode}
+use Rattle.body.specs.Decode.{Decoded, broken, decoded, withBlock, blockFrom, blockTest, blocksFrom, decode}
 use Rattle.body.specs.Walk.{startsFrom, keptOf, blocksOf, startsOf}
 use Rattle.body.specs.Parts.{referencesEnd}
-use Rattle.body.specs.BlockEnd.{pickEnd, keptAt, blockEnd}
+use Rattle.body.specs.BlockEnd.{keptAt, blockEnd}
 use Rattle.body.specs.declared.block.BlockEnd.the-variants.{At, Broken}
 use Rattle.body.proofs.BlockParts.{length-numbers}
 use Rattle.body.proofs.Decoded.{parts-long, fits}
@@ -48,7 +48,7 @@ cut B left (f ∷ sc ∷ rc ∷ rest) h = absurd (omega arith)
 -- the blocks from `at` on, where the head of the first is there
 headed : (B left at : ℕ) (s : List ℕ) → at + 3 ≤ length s
     → blocksFrom B (suc left) (drop at s)
-    ≡ pickDecoded (blockTest B (getD s at 0) (getD s (at + 1) 0) (getD s (at + 2) 0) (drop (at + 3) s))
+    ≡ cond (blockTest B (getD s at 0) (getD s (at + 1) 0) (getD s (at + 2) 0) (drop (at + 3) s))
     (withBlock (blockAt at s) (blocksFrom B left (drop (getD s (at + 1) 0 + 2 * getD s (at + 2) 0) (drop (at + 3) s))))
     broken
 unfolding blocksFrom
@@ -68,11 +68,11 @@ there : (B at : ℕ) (s : List ℕ) → Kept B at s → getD s (at + 1) 0 + 2 * 
 there B at s k = fits B (getD s at 0) (getD s (at + 1) 0) (getD s (at + 2) 0) (drop (at + 3) s) (k .test) .there
 
 -- what judging a block answers
-ended : (k : Bool) (at e : ℕ) → pickEnd k (At at) Broken ≡ At e → (k ≡ true) × (at ≡ e)
+ended : (k : Bool) (at e : ℕ) → cond k (At at) Broken ≡ At e → (k ≡ true) × (at ≡ e)
 ended true at e h = (refl, (cc))
 ended false at e h = let z : _≡_ {A = ℕ} 0 1 = cc in absurd (omega arith)
 
-refused : (k : Bool) (at : ℕ) → pickEnd k (At at) Broken ≡ Broken → k ≡ false
+refused : (k : Bool) (at : ℕ) → cond k (At at) Broken ≡ Broken → k ≡ false
 refused true at h = let z : _≡_ {A = ℕ} 0 1 = cc in absurd (omega arith)
 refused false at h = refl
 
@@ -229,7 +229,7 @@ answers-kept w l e h = rw (passed-all w l h) (refl, e ∙ sym (w .count), w .fil
 
 decode-headed : (s : List ℕ) → 2 ≤ length s
     → decode s
-    ≡ pickDecoded (leb 1 (getD s 0 0) && (leb (getD s 0 0) 24 && eqb (getD s 1 0) 0)) (blocksFrom (getD s 0 0) (getD s 0 0) (drop 2 s)) broken
+    ≡ cond (leb 1 (getD s 0 0) && (leb (getD s 0 0) 24 && eqb (getD s 1 0) 0)) (blocksFrom (getD s 0 0) (getD s 0 0) (drop 2 s)) broken
 unfolding decode
 decode-headed [] h = absurd (omega arith)
 decode-headed (B ∷ []) h = absurd (omega arith)

@@ -1,6 +1,6 @@
 -- Laws of one block: the loops over its successors and its references, its test, and where it ends.
 use mathlib.Core.Path.{_≡_, refl, sym, _∙_}
-use mathlib.Core.Bool.{Bool, true, false, _&&_}
+use mathlib.Core.Bool.{Bool, true, false, _&&_, cond}
 use mathlib.Core.List.{List, [], _∷_}
 use Prim.Native.Nat.{ℕ, suc, _+_, _-_, _*_, _≤_, _<_}
 use native.Mathlib.Numerals.{add-one}
@@ -11,7 +11,7 @@ use lib.Seq.{drop-cons, take-all}
 use borrow.Author.Tests.{eq-eqb, ne-eqb, le-leb, lt-leb, lt-ltb, le-ltb}
 use Rattle.cache.specs.References.{nothing, numberAt, numbers}
 use Rattle.body.specs.Decode.{risesBelow, allReal, blockTest}
-use Rattle.body.specs.BlockEnd.{pickEnd, blockEnd}
+use Rattle.body.specs.BlockEnd.{blockEnd}
 use Rattle.body.specs.declared.block.BlockEnd.the-variants.{At, Broken}
 
 -- the first successor is the last one so far
@@ -106,7 +106,7 @@ end-short B at s h = rw (lt-leb (at + 3) (length s) h)
 -- a block whose first three bytes are there: its test, on the bytes behind them, decides
 pub end-is : (B at : ℕ) (s : List ℕ) {sc rc : ℕ} {kept : Bool} → at + 3 ≤ length s → sc ≡ getD s (at + 1) 0 → rc ≡ getD s (at + 2) 0
     → kept ≡ blockTest B (getD s at 0) sc rc (take (length s - (at + 3)) (drop (at + 3) s))
-    → pickEnd kept (At (at + 3 + sc + 2 * rc)) Broken ≡ blockEnd B at s
+    → cond kept (At (at + 3 + sc + 2 * rc)) Broken ≡ blockEnd B at s
 unfolding blockEnd
 end-is B at s h p q k =
     let all : length (drop (at + 3) s) ≤ length s - (at + 3) = omega (arith, length-drop (at + 3) s) in

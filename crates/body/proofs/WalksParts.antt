@@ -1,7 +1,7 @@
 -- Laws of the parts of a block: in a body that decodes to a task they stand where the walk says that the block begins.
 -- The idea: an induction along the blocks that are decoded, each of which ends where the next begins.
 use mathlib.Core.Path.{_≡_, refl, sym, ap, subst, _∙_}
-use mathlib.Core.Bool.{Bool, true, false, _&&_, false≢true}
+use mathlib.Core.Bool.{Bool, true, false, _&&_, false≢true, cond}
 use mathlib.Core.List.{List, [], _∷_}
 use Prim.Native.Nat.{ℕ, zero, suc, _+_, _-_, _≤_, _<_}
 use native.Mathlib.Omega.{arith}
@@ -11,7 +11,7 @@ use lib.Seq.{drop-drop}
 use Rattle.cache.specs.References.{numbers}
 use Rattle.model.specs.Tasks.{Block, Task, block}
 use Rattle.body.specs.Layout.{blockBytes}
-use Rattle.body.specs.Decode.{Decoded, broken, decoded, withBlock, pickDecoded, blocksFrom, decode}
+use Rattle.body.specs.Decode.{Decoded, broken, decoded, withBlock, blocksFrom, decode}
 use Rattle.body.specs.Walk.{startsFrom, keptOf, startsOf}
 use Rattle.body.specs.Parts.{successorsEnd, referencesEnd, successorsAt, referencesAt}
 use Rattle.body.specs.BlockEnd.{keptAt}
@@ -63,7 +63,7 @@ stands (suc left) B at s t h =
     subst (λ (v : Task). (b : ℕ) → b < length v → Stands s (getD (startsFrom at v) b 0) (block v b)) (f .2)
     (in-order s at e (blockAt at s) (f .0) (end-behind B at s k) (end-within B at s k, refl) (stands left B e s (f .0) (f .1)))
 
-picked : (k : Bool) (d : Decoded) (t : Task) → pickDecoded k d broken ≡ decoded t → d ≡ decoded t
+picked : (k : Bool) (d : Decoded) (t : Task) → cond k d broken ≡ decoded t → d ≡ decoded t
 picked true d t h = h
 picked false d t h = no-task h
 

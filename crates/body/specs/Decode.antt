@@ -1,11 +1,12 @@
 -- The task that a body is the bytes of, computed; proofs/Decoded shows that it is the task of `Layout`.
-use mathlib.Core.Bool.{Bool, true, false, _&&_}
+use mathlib.Core.Bool.{Bool, true, _&&_, cond}
 use mathlib.Core.List.{List, [], _∷_}
 use Prim.Native.Nat.{ℕ, zero, suc, _+_, _*_}
 use lib.Dec.{eqb, ltb, leb}
 use lib.ListN.{length, take, drop}
 use Rattle.cache.specs.References.{nothing, numbers}
 use Rattle.model.specs.Tasks.{Block, Task}
+use Rattle.body.specs.Layout.{Body}
 
 -- a task, or none where the bytes break the layout
 pub data Decoded : Type 0 where
@@ -20,10 +21,6 @@ taskOf (decoded t) = t
 abbrev pub withBlock : Block → Decoded → Decoded
 withBlock x broken = broken
 withBlock x (decoded t) = decoded (x ∷ t)
-
-abbrev pub pickDecoded : Bool → Decoded → Decoded → Decoded
-pickDecoded true a b = a
-pickDecoded false a b = b
 
 -- each number is below the bound and above the one before it
 abbrev pub risesBelow : ℕ → List ℕ → Bool
@@ -53,9 +50,9 @@ blocksFrom B (suc left) [] = broken
 blocksFrom B (suc left) (f ∷ []) = broken
 blocksFrom B (suc left) (f ∷ sc ∷ []) = broken
 blocksFrom B (suc left) (f ∷ sc ∷ rc ∷ rest) =
-    pickDecoded (blockTest B f sc rc rest) (withBlock (blockFrom sc rc rest) (blocksFrom B left (drop (sc + 2 * rc) rest))) broken
+    cond (blockTest B f sc rc rest) (withBlock (blockFrom sc rc rest) (blocksFrom B left (drop (sc + 2 * rc) rest))) broken
 
-unfoldable pub decode : List ℕ → Decoded
+unfoldable pub decode : Body → Decoded
 decode [] = broken
 decode (B ∷ []) = broken
-decode (B ∷ z ∷ s) = pickDecoded (leb 1 B && (leb B 24 && eqb z 0)) (blocksFrom B B s) broken
+decode (B ∷ z ∷ s) = cond (leb 1 B && (leb B 24 && eqb z 0)) (blocksFrom B B s) broken

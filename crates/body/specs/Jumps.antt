@@ -1,10 +1,11 @@
--- Sets of basic blocks as bits of a number, and the passes that find the blocks on complete paths. Definitions only.
-use mathlib.Core.Bool.{Bool, true, not, _&&_, cond}
+-- Sets of basic blocks as bits of a number, and the blocks that they lead to. Definitions only.
+use mathlib.Core.Path.{_≡_}
+use mathlib.Core.Logic.{_↔_}
+use mathlib.Core.Bool.{Bool, true, _&&_}
 use mathlib.Core.List.{List, _++_, map}
-use Prim.Native.Nat.{ℕ, zero, suc, _-_, _^_}
+use Prim.Native.Nat.{ℕ, zero, suc, _-_, _^_, _<_}
 use lib.Dec.{eqb}
 use lib.ListN.{length, getD, replicate}
-use lib.Bits.{bitAnd, bitOr}
 use Rattle.cache.specs.Sets.{bits, inSet}
 use Rattle.model.specs.Lists.{mem}
 use Rattle.model.specs.Tasks.{Block, Task}
@@ -17,15 +18,15 @@ setOf l = bits 24 (λ c. mem eqb c l)
 abbrev pub jumpSets : Task → List ℕ
 jumpSets t = map (λ (x : Block). setOf (x .successors)) t ++ replicate (24 - length t) 0
 
--- one pass over `left` blocks from b on: a block in the set adds its successors
-unfoldable pub forwardPass : List ℕ → ℕ → ℕ → ℕ → ℕ
-forwardPass sets zero b set = set
-forwardPass sets (suc left) b set = forwardPass sets left (suc b) (cond (inSet set b) (bitOr set (getD sets b 0)) set)
+-- the blocks that sets of blocks lead to from the block `first`, itself among them
+pub data LedTo (sets : List ℕ) (first : ℕ) : ℕ → Type 0 where
+  begins : LedTo sets first first
+  goesOn : {b c : ℕ} → LedTo sets first b → inSet (getD sets b 0) c ≡ true → LedTo sets first c
 
--- one pass: a block with a successor in the set is added
-unfoldable pub backwardPass : List ℕ → ℕ → ℕ → ℕ → ℕ
-backwardPass sets zero b set = set
-backwardPass sets (suc left) b set = backwardPass sets left (suc b) (cond (not (eqb (bitAnd (getD sets b 0) set) 0)) (bitOr set (2 ^ b)) set)
+-- the set of exactly the blocks with a property
+pub record Exactly (P : ℕ → Type 0) (set : ℕ) : Type 0 where
+  pub below : set < 2 ^ 24
+  pub members : (c : ℕ) → (inSet set c ≡ true) ↔ P c
 
 -- each block below b is in the set
 abbrev pub hasBelow : ℕ → ℕ → Bool

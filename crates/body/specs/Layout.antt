@@ -21,8 +21,12 @@ abbrev pub blocksBytes : Task → List ℕ
 blocksBytes [] = []
 blocksBytes (x ∷ t) = blockBytes x ++ blocksBytes t
 
+-- the bytes of a task's body
+abbrev pub Body : Type 0
+Body = List ℕ
+
 -- "A body: B, the basic blocks ..; a zero byte; then each block .. A body ends with its last block."
-abbrev pub bodyBytes : Task → List ℕ
+abbrev pub bodyBytes : Task → Body
 bodyBytes t = length t ∷ 0 ∷ blocksBytes t
 
 -- "strictly rising"
@@ -48,5 +52,5 @@ pub record InBounds (t : Task) : Type 0 where
   pub each : Each (BlockInBounds (length t)) t
 
 -- a body that keeps its layout: the bytes of a task within the bounds; check 8 is "a body breaks its layout"
-abbrev pub Layout : List ℕ → Type 0
+abbrev pub Layout : Body → Type 0
 Layout s = (t : Task) × InBounds t × (s ≡ bodyBytes t)

@@ -5,6 +5,7 @@ ghost use lib.ListN.{length};
 ghost use Rattle.cache.specs.References.{numbers};
 ghost use Rattle.body.specs.Decode.{risesBelow, allReal, blockTest};
 ghost use Rattle.body.specs.BlockEnd.{blockEnd};
+use cache::numbers::byte_count;
 use cache::references::number_at;
 use cache::row::Row;
 
@@ -18,13 +19,6 @@ const REFERENCES: usize = 16;
 pub enum BlockEnd {
     At(usize),
     Broken,
-}
-
-// A byte as a count, with its bound, so that sums of counts are seen to fit.
-pub fn count(x: u8) -> usize
-    ensures { λ r. ⌜ (r ≡ x) × (r < 256) ⌝ }
-{
-    x as usize
 }
 
 // Whether each successor is below the next one, and the last below the number of blocks.
@@ -93,8 +87,8 @@ pub fn block_end(body: &[u8], at: usize, blocks: u8) -> BlockEnd
     if body.len() < from {
         return BlockEnd::Broken;
     }
-    let successors = count(body[at + 1]);
-    let references = count(body[at + 2]);
+    let successors = byte_count(body[at + 1]);
+    let references = byte_count(body[at + 2]);
     if block_kept(body[at], successors, references, &body[from..], blocks) {
         return BlockEnd::At(from + successors + 2 * references);
     }

@@ -2,8 +2,10 @@
 pub mod block;
 pub mod jumps;
 pub mod paths;
+pub mod predecessors;
 
 use block::BlockEnd;
+use cache::numbers::byte_count;
 ghost use mathlib.Core.Path.{_≡_};
 ghost use mathlib.Core.Bool.{true};
 ghost use Prim.Native.Nat.{_≤_};
@@ -48,7 +50,7 @@ pub fn walk(body: &[u8]) -> BodyWalk
     }
     let mut starts = [0usize; 24];
     let mut at: usize = 2;
-    let all = block::count(blocks);
+    let all = byte_count(blocks);
     for b in 0..all {
         let BlockEnd::At(end) = block::block_end(body, at, blocks) else {
             return BROKEN;
@@ -71,7 +73,7 @@ pub fn block_count(body: &[u8]) -> usize
     requires { ⌜ keptOf (decode (now body)) ≡ true ⌝ }
     ensures { λ r. ⌜ (r ≡ length (taskOf (decode (now (body .entry))))) × (1 ≤ r) × (r ≤ 24) ⌝ }
 {
-    block::count(body[0])
+    byte_count(body[0])
 }
 
 // The successors of the block that begins at `at`, one byte each, as a part of the body; where in the body it stands is left open.
@@ -80,7 +82,7 @@ pub fn successors(body: &[u8], at: usize) -> &[u8]
     ensures { λ r. ⌜ now r ≡ successorsAt at (now (body .entry)) ⌝ }
 {
     let from = at + 3;
-    let to = from + block::count(body[at + 1]);
+    let to = from + byte_count(body[at + 1]);
     &body[from..to]
 }
 
@@ -89,7 +91,7 @@ pub fn references(body: &[u8], at: usize) -> &[u8]
     requires { ⌜ referencesEnd at (now body) ≤ length (now body) ⌝ }
     ensures { λ r. ⌜ now r ≡ referencesAt at (now (body .entry)) ⌝ }
 {
-    let from = at + 3 + block::count(body[at + 1]);
-    let to = from + 2 * block::count(body[at + 2]);
+    let from = at + 3 + byte_count(body[at + 1]);
+    let to = from + 2 * byte_count(body[at + 2]);
     &body[from..to]
 }

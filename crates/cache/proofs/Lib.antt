@@ -1,7 +1,9 @@
 pub mod Sums
 pub mod Rows
 pub mod Cells
-pub mod Numbers
+pub mod NumberLaws
 pub mod Firsts
 pub mod Bits
 pub mod Masks
+pub mod Members
+pub mod Copies

@@ -3,3 +3,4 @@ pub mod References
 pub mod Cache
 pub mod Firsts
 pub mod Sets
+pub mod Shape

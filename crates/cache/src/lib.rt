@@ -1,5 +1,6 @@
 // The direct-mapped cache: blocks, rows, references and sets of cache blocks.
 pub mod blocks;
+pub mod numbers;
 pub mod references;
 pub mod row;
 pub mod sets;

@@ -7,7 +7,6 @@ use native.Mathlib.Nat.{zero-add}
 use native.Mathlib.Omega.{arith}
 use lib.ListN.{getD}
 use borrow.Author.Tests.{lt-ltb, ne-eqb}
-use Rattle.cache.specs.Cache.{direct}
 use Rattle.cache.specs.Sets.{usefulUsed}
 use Rattle.model.specs.Tasks.{task}
 use Rattle.model.proofs.Most.{most-is}
@@ -15,12 +14,12 @@ use Rattle.project.specs.declared.answers.Check.{Check}
 use Rattle.project.specs.declared.answers.Check.the-variants.{Passed}
 use Rattle.project.specs.declared.answers.Check.the-variants.{Refused as Failed}
 use Rattle.project.specs.declared.answers.Filling.the-variants.{Filled}
-use Rattle.project.specs.File.{cacheBlocks, taskCount}
+use Rattle.project.specs.File.{taskCount}
 use Rattle.project.specs.Checklist.{noTask}
 use Rattle.project.specs.Reading.{fileCheck, readingOf}
 use Rattle.project.specs.Bodies.{accepted}
 use Rattle.project.specs.Filling.{pickFilling}
-use Rattle.project.specs.Tasks.{tasksOf}
+use Rattle.project.specs.Tasks.{tasksOf, fileCache}
 use Rattle.project.specs.declared.answers.Reading.the-variants.{Accepted}
 use Rattle.project.proofs.TaskFaults.{Bytes}
 use Rattle.project.proofs.Accepted.{unless-passed, then-passed, passing, accepted-passed}
@@ -54,8 +53,8 @@ pub demand-3-whole : (s : List ℕ) → Bytes s → (n t : ℕ) → readingOf s 
 demand-3-whole s h n t e =
     let (q, en, et) = accepted-passed s n t e in
     record {
-      runs = rw (← en) (file-demand-3 s h n t e);
-      numbers = λ i j. most-is (usefulUsed (direct (cacheBlocks s))) (direct (cacheBlocks s)) (task (tasksOf s) i) (task (tasksOf s) j);
+      runs = file-demand-3 s h n t e;
+      numbers = λ i j. most-is (usefulUsed (fileCache s)) (fileCache s) (task (tasksOf s) i) (task (tasksOf s) j);
       entries = table-entries s;
       answers = of-the-run s h;
       described = replayed s h;

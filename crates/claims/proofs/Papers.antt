@@ -38,8 +38,8 @@ figure-counts : StatesCount figureAndBlock (4 ∷ 1 ∷ 3 ∷ 3 ∷ []) (4 ∷ 4
 unfolding nothing numbers decode blocksFrom
 figure-counts area h = (
   ok,
-  (count-at figureAndBlock 0 area ok 0 (omega arith) false, (count-at figureAndBlock 0 area ok 1 (omega arith) false, (count-at figureAndBlock 0 area ok 2 (omega arith) false, (count-at figureAndBlock 0 area ok 3 (omega arith) false, tt)))),
-  (count-at figureAndBlock 0 area ok 0 (omega arith) true, (count-at figureAndBlock 0 area ok 1 (omega arith) true, (count-at figureAndBlock 0 area ok 2 (omega arith) true, (count-at figureAndBlock 0 area ok 3 (omega arith) true, tt)))),
+  (count-at 16 figureAndBlock 0 area ok 0 (omega arith) false, (count-at 16 figureAndBlock 0 area ok 1 (omega arith) false, (count-at 16 figureAndBlock 0 area ok 2 (omega arith) false, (count-at 16 figureAndBlock 0 area ok 3 (omega arith) false, tt)))),
+  (count-at 16 figureAndBlock 0 area ok 0 (omega arith) true, (count-at 16 figureAndBlock 0 area ok 1 (omega arith) true, (count-at 16 figureAndBlock 0 area ok 2 (omega arith) true, (count-at 16 figureAndBlock 0 area ok 3 (omega arith) true, tt)))),
 )
   where
     ok : fillingOf 16 figureAndBlock 0 area ≡ Filled

@@ -5,11 +5,9 @@ use mathlib.Core.List.{List, [], _∷_, _++_}
 use Prim.Native.Nat.{ℕ}
 use native.Mathlib.Omega.{arith}
 use lib.ListN.{length, getD, drop}
-use Rattle.cache.specs.Cache.{direct}
 use Rattle.model.specs.Tasks.{task}
 use Rattle.model.specs.Runs.{Preemption, countAtEnd}
-use Rattle.project.specs.File.{cacheBlocks}
-use Rattle.project.specs.Tasks.{tasksOf}
+use Rattle.project.specs.Tasks.{tasksOf, fileCache}
 use Rattle.project.proofs.TaskFaults.{Bytes}
 use Rattle.sheet.specs.Sheet.{SheetRun, preemptionNumbers, sheetNumbers, sheetRun}
 use Rattle.replay.proofs.Replays.{replayed}
@@ -56,5 +54,5 @@ of-the-run s h run u d e =
     (x .undisturbed ∙ counts (run .p) (x .run .p) (run .path) (x .run .path) [] [] a b refl, x .disturbed ∙ counts (run .p) (x .run .p) (run .path) (x .run .path) (run .preemptions) (x .run .preemptions) a b c)
   where
     counts : (p q : ℕ) (path other : List ℕ) (xs ys : List Preemption) → p ≡ q → path ≡ other → xs ≡ ys
-        → countAtEnd (direct (cacheBlocks s)) (tasksOf s) (task (tasksOf s) q) other ys ≡ countAtEnd (direct (cacheBlocks s)) (tasksOf s) (task (tasksOf s) p) path xs
+        → countAtEnd (fileCache s) (tasksOf s) (task (tasksOf s) q) other ys ≡ countAtEnd (fileCache s) (tasksOf s) (task (tasksOf s) p) path xs
     counts p q path other xs ys a b c = rw (a, b, c)

@@ -5,50 +5,50 @@ use mathlib.Core.List.{List}
 use Prim.Native.Nat.{ℕ, _+_, _*_, _<_}
 use lib.ListN.{getD}
 use Rattle.cache.specs.References.{All}
-use Rattle.cache.specs.Cache.{direct}
 use Rattle.model.specs.Tasks.{task}
 use Rattle.model.specs.Numbers.{PairNumber}
 use Rattle.model.specs.Runs.{DisturbedRun, U, D}
 use Rattle.model.specs.Demand.{Demand3}
 use Rattle.project.specs.declared.answers.Filling.the-variants.{Filled}
-use Rattle.project.specs.File.{cacheBlocks, taskCount}
-use Rattle.project.specs.Tasks.{tasksOf, filePair}
+use Rattle.project.specs.File.{File, taskCount}
+use Rattle.project.specs.Tasks.{tasksOf, filePair, fileCache}
+use Rattle.rows.specs.Rows.{Area}
 use Rattle.table.specs.Table.{tableAnswer, tableAfter}
-use Rattle.sheet.specs.Sheet.{sheetNumbers, Fits, sheetRun}
+use Rattle.sheet.specs.Sheet.{Sheet, sheetNumbers, Fits, sheetRun}
 use Rattle.replay.specs.declared.Replaying.the-variants.{Counted}
 use Rattle.replay.specs.Replay.{replayingOf}
 use Rattle.replay.specs.ReplayVerdict.{Replayed}
 
 -- "where table answers, they are its entries"
-abbrev pub TableEntries : List ℕ → Type 0
+abbrev pub TableEntries : File → Type 0
 TableEntries s =
-    (area table : List ℕ) → tableAnswer 16 s area table ≡ Filled → (i j : ℕ) → i < taskCount s → j < taskCount s → j ≢ i
+    (area : Area) (table : List ℕ) → tableAnswer 16 s area table ≡ Filled → (i j : ℕ) → i < taskCount s → j < taskCount s → j ≢ i
     → getD (tableAfter 16 s area table) (8 * i + j) 0 ≡ filePair s i j
 
 -- "Its pair numbers are those defined above": over the rows that paths make
-abbrev pub NumbersOfPaths : List ℕ → Type 0
-NumbersOfPaths s = (i j : ℕ) → PairNumber (direct (cacheBlocks s)) (task (tasksOf s) i) (task (tasksOf s) j) (filePair s i j)
+abbrev pub NumbersOfPaths : File → Type 0
+NumbersOfPaths s = (i j : ℕ) → PairNumber (fileCache s) (task (tasksOf s) i) (task (tasksOf s) j) (filePair s i j)
 
 -- the sheet of a run, and the run's U and D in the file's cache
-abbrev pub sheetOf : (s : List ℕ) → DisturbedRun (tasksOf s) → List ℕ
+abbrev pub sheetOf : (s : File) → DisturbedRun (tasksOf s) → Sheet
 sheetOf s run = sheetNumbers (sheetRun (tasksOf s) run)
 
-abbrev pub fileU : (s : List ℕ) → DisturbedRun (tasksOf s) → ℕ
-fileU s run = U (direct (cacheBlocks s)) run
+abbrev pub fileU : (s : File) → DisturbedRun (tasksOf s) → ℕ
+fileU s run = U (fileCache s) run
 
-abbrev pub fileD : (s : List ℕ) → DisturbedRun (tasksOf s) → ℕ
-fileD s run = D (direct (cacheBlocks s)) run
+abbrev pub fileD : (s : File) → DisturbedRun (tasksOf s) → ℕ
+fileD s run = D (fileCache s) run
 
 -- "Where replay accepts a sheet of the run, U and D are its answers.": of the run that is given
-abbrev pub ReplayAnswers : List ℕ → Type 0
+abbrev pub ReplayAnswers : File → Type 0
 ReplayAnswers s = (run : DisturbedRun (tasksOf s)) (u d : ℕ) → replayingOf s (sheetOf s run) ≡ Counted u d → (u ≡ fileU s run) × (d ≡ fileD s run)
 
 -- every sheet that replay accepts is that of a disturbed run
-abbrev pub SheetsDescribe : List ℕ → Type 0
-SheetsDescribe s = (sheet : List ℕ) (u d : ℕ) → replayingOf s sheet ≡ Counted u d → Replayed s sheet u d
+abbrev pub SheetsDescribe : File → Type 0
+SheetsDescribe s = (sheet : Sheet) (u d : ℕ) → replayingOf s sheet ≡ Counted u d → Replayed s sheet u d
 
 -- replay accepts the sheet of every disturbed run that a sheet can hold; the sheet is one of two-byte numbers
-abbrev pub RunsReplayed : List ℕ → Type 0
+abbrev pub RunsReplayed : File → Type 0
 RunsReplayed s =
     (run : DisturbedRun (tasksOf s)) → Fits (tasksOf s) run
     → (replayingOf s (sheetOf s run) ≡ Counted (fileU s run) (fileD s run)) × All (λ (x : ℕ). x < 65536) (sheetOf s run)
@@ -56,8 +56,8 @@ RunsReplayed s =
 -- demand 3 whole, over an accepted file: for every disturbed run U <= D <= U + the sum of the pair numbers, and for every two different tasks
 -- a run with exactly one preemption that reaches its number (`Demand3`); the numbers are those over paths, the table's entries are these numbers, and
 -- the replay's answers these U and D
-pub record Demand3Whole (s : List ℕ) : Type 0 where
-  pub runs : Demand3 (cacheBlocks s) (tasksOf s)
+pub record Demand3Whole (s : File) : Type 0 where
+  pub runs : Demand3 (fileCache s) (tasksOf s)
   pub numbers : NumbersOfPaths s
   pub entries : TableEntries s
   pub answers : ReplayAnswers s

@@ -5,8 +5,10 @@ use Prim.Native.Nat.{ℕ, suc}
 use lib.ListN.{length, getD}
 use Rattle.project.specs.declared.answers.Filling.the-variants.{Filled}
 use Rattle.project.specs.declared.answers.Reading.the-variants.{Accepted}
+use Rattle.project.specs.File.{File}
 use Rattle.project.specs.Reading.{readingOf}
 use Rattle.project.specs.FileE.{fileE}
+use Rattle.rows.specs.Rows.{Area}
 use Rattle.states.specs.Filling.{fillingOf, areaAfter}
 use Rattle.table.specs.Table.{tableAnswer, tableAfter}
 use Rattle.replay.specs.declared.Replaying.the-variants.{Counted}
@@ -14,9 +16,9 @@ use Rattle.replay.specs.Replay.{replayingOf}
 use Rattle.claims.specs.Files.{figureAndBlock, figureAndFork, fiveForks}
 
 -- Table fills every table of 64 numbers, with every work area of 24,832, and the table then holds x at the place
-abbrev pub TableHolds : List ℕ → ℕ → ℕ → Type 0
+abbrev pub TableHolds : File → ℕ → ℕ → Type 0
 TableHolds s place x =
-    (area table : List ℕ) → length area ≡ 24832 → length table ≡ 64 → (tableAnswer 16 s area table ≡ Filled) × (getD (tableAfter 16 s area table) place 0 ≡ x)
+    (area : Area) (table : List ℕ) → length area ≡ 24832 → length table ≡ 64 → (tableAnswer 16 s area table ≡ Filled) × (getD (tableAfter 16 s area table) place 0 ≡ x)
 
 -- the list holds the numbers xs, from the place `at` on
 abbrev pub Holds : List ℕ → ℕ → List ℕ → Type 0
@@ -24,9 +26,9 @@ Holds l at [] = Unit {0}
 Holds l at (x ∷ xs) = (getD l at 0 ≡ x) × Holds l (suc at) xs
 
 -- States of task 0 fills every work area of 24,832 numbers, and the area then holds these first reaching counts (from 24,576 on) and live counts (from 24,600 on)
-abbrev pub StatesCount : List ℕ → List ℕ → List ℕ → Type 0
+abbrev pub StatesCount : File → List ℕ → List ℕ → Type 0
 StatesCount s reached lived =
-    (area : List ℕ) → length area ≡ 24832
+    (area : Area) → length area ≡ 24832
     → (fillingOf 16 s 0 area ≡ Filled) × Holds (areaAfter 16 s 0 area) 24576 reached × Holds (areaAfter 16 s 0 area) 24600 lived
 
 pub record Papers : Type 0 where

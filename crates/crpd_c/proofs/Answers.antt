@@ -1,13 +1,13 @@
 -- What the functions for C leave in a list of a fixed number of places, and what they answer, case by case.
 -- The idea: a list of k places is the numbers that were written; a list of another length is told by the test.
 use mathlib.Core.Path.{_≡_, refl, ap, _∙_}
-use mathlib.Core.Bool.{true, false}
+use mathlib.Core.Bool.{true, false, cond}
 use mathlib.Core.List.{List, [], _∷_}
 use Prim.Native.Nat.{ℕ}
 use native.Mathlib.Omega.{arith}
 use lib.ListN.{length, set}
 use borrow.Author.Tests.{eq-eqb, ne-eqb}
-use Rattle.crpd_c.specs.Status.{places, pickStatus, pickList}
+use Rattle.crpd_c.specs.Status.{places}
 
 pub one-set : (l : List ℕ) (v : ℕ) → length l ≡ 1 → set l 0 v ≡ v ∷ []
 one-set [] v e = absurd (omega arith)
@@ -31,13 +31,13 @@ module _ (k : ℕ) (answer : List ℕ) (h : length answer ≡ k) where
   right : places k answer ≡ true
   right = eq-eqb (length answer) k h
 
-  pub status : {x y : ℕ} → x ≡ y → x ≡ pickStatus (places k answer) y
+  pub status : {x y : ℕ} → x ≡ y → x ≡ cond (places k answer) y 1
   status q = rw right q
 
-  pub leaving : {new after : List ℕ} (old : List ℕ) → new ≡ after → new ≡ pickList (places k answer) after old
+  pub leaving : {new after : List ℕ} (old : List ℕ) → new ≡ after → new ≡ cond (places k answer) after old
   leaving old q = rw right q
 
-pub naming : (named : List ℕ) → length named ≡ 1 → {v w : ℕ} → v ≡ w → set named 0 v ≡ pickList (places 1 named) (w ∷ []) named
+pub naming : (named : List ℕ) → length named ≡ 1 → {v w : ℕ} → v ≡ w → set named 0 v ≡ cond (places 1 named) (w ∷ []) named
 naming named h {v} q = leaving 1 named h named (one-set named v h ∙ ap (λ (x : ℕ). x ∷ []) q)
 
 -- two numbers written, each told by an equation

@@ -1,10 +1,12 @@
 -- Reader for C. Definitions only.
+use mathlib.Core.Bool.{cond}
 use mathlib.Core.List.{List, [], _∷_}
 use Prim.Native.Nat.{ℕ}
+use Rattle.project.specs.File.{File}
 use Rattle.project.specs.Reading.{readingOf}
 use Rattle.project.specs.declared.answers.Reading.{Reading}
 use Rattle.project.specs.declared.answers.Reading.the-variants.{Accepted, Refused}
-use Rattle.crpd_c.specs.Status.{places, pickStatus, pickList}
+use Rattle.crpd_c.specs.Status.{places}
 
 -- 0 for a file that is accepted; a refusal as document 01's number
 abbrev pub statusOfReading : Reading → ℕ
@@ -16,8 +18,8 @@ abbrev pub numbersOfReading : Reading → List ℕ
 numbersOfReading (Accepted n t) = 255 ∷ n ∷ t ∷ []
 numbersOfReading (Refused c a) = a ∷ 0 ∷ 0 ∷ []
 
-abbrev pub readStatus : List ℕ → List ℕ → ℕ
-readStatus s answer = pickStatus (places 3 answer) (statusOfReading (readingOf s))
+abbrev pub readStatus : File → List ℕ → ℕ
+readStatus s answer = cond (places 3 answer) (statusOfReading (readingOf s)) 1
 
-abbrev pub readLeft : List ℕ → List ℕ → List ℕ
-readLeft s answer = pickList (places 3 answer) (numbersOfReading (readingOf s)) answer
+abbrev pub readLeft : File → List ℕ → List ℕ
+readLeft s answer = cond (places 3 answer) (numbersOfReading (readingOf s)) answer

@@ -1,10 +1,13 @@
 -- Replay for C. Definitions only.
+use mathlib.Core.Bool.{cond}
 use mathlib.Core.List.{List, [], _∷_}
 use Prim.Native.Nat.{ℕ}
+use Rattle.project.specs.File.{File}
+use Rattle.sheet.specs.Sheet.{Sheet}
 use Rattle.replay.specs.declared.Replaying.{Replaying}
 use Rattle.replay.specs.declared.Replaying.the-variants.{Counted, Refused}
 use Rattle.replay.specs.Replay.{replayingOf}
-use Rattle.crpd_c.specs.Status.{places, pickStatus, pickList}
+use Rattle.crpd_c.specs.Status.{places}
 
 -- 0 for a sheet that is accepted; a refusal as document 01's number
 abbrev pub statusOfReplaying : Replaying → ℕ
@@ -16,8 +19,8 @@ abbrev pub numbersOfReplaying : Replaying → List ℕ
 numbersOfReplaying (Counted u d) = 255 ∷ u ∷ d ∷ []
 numbersOfReplaying (Refused c a) = a ∷ 0 ∷ 0 ∷ []
 
-abbrev pub replayStatus : List ℕ → List ℕ → List ℕ → ℕ
-replayStatus s sheet answer = pickStatus (places 3 answer) (statusOfReplaying (replayingOf s sheet))
+abbrev pub replayStatus : File → Sheet → List ℕ → ℕ
+replayStatus s sheet answer = cond (places 3 answer) (statusOfReplaying (replayingOf s sheet)) 1
 
-abbrev pub replayLeft : List ℕ → List ℕ → List ℕ → List ℕ
-replayLeft s sheet answer = pickList (places 3 answer) (numbersOfReplaying (replayingOf s sheet)) answer
+abbrev pub replayLeft : File → Sheet → List ℕ → List ℕ
+replayLeft s sheet answer = cond (places 3 answer) (numbersOfReplaying (replayingOf s sheet)) answer

@@ -1,14 +1,17 @@
 -- States for C. Definitions only.
+use mathlib.Core.Bool.{cond}
 use mathlib.Core.List.{List, [], _∷_}
 use Prim.Native.Nat.{ℕ}
+use Rattle.project.specs.File.{File}
+use Rattle.rows.specs.Rows.{Area}
 use Rattle.states.specs.Filling.{fillingOf, areaAfter}
-use Rattle.crpd_c.specs.Status.{statusOf, namedOf, places, pickStatus, pickList}
+use Rattle.crpd_c.specs.Status.{statusOf, namedOf, places}
 
-abbrev pub statesStatus : List ℕ → ℕ → List ℕ → List ℕ → ℕ
-statesStatus s task area named = pickStatus (places 1 named) (statusOf (fillingOf 16 s task area))
+abbrev pub statesStatus : File → ℕ → Area → List ℕ → ℕ
+statesStatus s task area named = cond (places 1 named) (statusOf (fillingOf 16 s task area)) 1
 
-abbrev pub statesLeft : List ℕ → ℕ → List ℕ → List ℕ → List ℕ
-statesLeft s task area named = pickList (places 1 named) (areaAfter 16 s task area) area
+abbrev pub statesLeft : File → ℕ → Area → List ℕ → Area
+statesLeft s task area named = cond (places 1 named) (areaAfter 16 s task area) area
 
-abbrev pub statesNamed : List ℕ → ℕ → List ℕ → List ℕ → List ℕ
-statesNamed s task area named = pickList (places 1 named) (namedOf (fillingOf 16 s task area) ∷ []) named
+abbrev pub statesNamed : File → ℕ → Area → List ℕ → List ℕ
+statesNamed s task area named = cond (places 1 named) (namedOf (fillingOf 16 s task area) ∷ []) named

@@ -1,5 +1,5 @@
 -- What the functions for C answer: 0, or the number of the check that fails first, and the task that it names in a list of one place. Definitions only.
-use mathlib.Core.Bool.{Bool, true, false}
+use mathlib.Core.Bool.{Bool}
 use mathlib.Core.List.{List}
 use Prim.Native.Nat.{ℕ}
 use lib.Dec.{eqb}
@@ -20,11 +20,3 @@ namedOf (Refused c a) = a
 -- a list for an answer has a fixed number of places; any other is refused with 1, and nothing is written
 abbrev pub places : ℕ → List ℕ → Bool
 places k answer = eqb (length answer) k
-
-abbrev pub pickStatus : Bool → ℕ → ℕ
-pickStatus true status = status
-pickStatus false status = 1
-
-abbrev pub pickList : Bool → List ℕ → List ℕ → List ℕ
-pickList true new old = new
-pickList false new old = old

@@ -1,10 +1,11 @@
 -- Writer for C. Definitions only.
+use mathlib.Core.Bool.{cond}
 use mathlib.Core.List.{List, [], _∷_}
 use Prim.Native.Nat.{ℕ}
 use Rattle.project.specs.Writing.{writingOf, outOf}
 use Rattle.project.specs.declared.answers.Writing.{Writing}
 use Rattle.project.specs.declared.answers.Writing.the-variants.{Written, Refused}
-use Rattle.crpd_c.specs.Status.{places, pickStatus, pickList}
+use Rattle.crpd_c.specs.Status.{places}
 
 -- 0 for a file that is written; a refusal as document 01's number
 abbrev pub statusOfWriting : Writing → ℕ
@@ -17,10 +18,10 @@ numbersOfWriting (Written l) = 255 ∷ l ∷ []
 numbersOfWriting (Refused c a) = a ∷ 0 ∷ []
 
 abbrev pub writeStatus : ℕ → List ℕ → List ℕ → List ℕ → List ℕ → ℕ
-writeStatus n bodies lengths out answer = pickStatus (places 2 answer) (statusOfWriting (writingOf n bodies lengths out))
+writeStatus n bodies lengths out answer = cond (places 2 answer) (statusOfWriting (writingOf n bodies lengths out)) 1
 
 abbrev pub writeOut : ℕ → List ℕ → List ℕ → List ℕ → List ℕ → List ℕ
-writeOut n bodies lengths out answer = pickList (places 2 answer) (outOf n bodies lengths out) out
+writeOut n bodies lengths out answer = cond (places 2 answer) (outOf n bodies lengths out) out
 
 abbrev pub writeLeft : ℕ → List ℕ → List ℕ → List ℕ → List ℕ → List ℕ
-writeLeft n bodies lengths out answer = pickList (places 2 answer) (numbersOfWriting (writingOf n bodies lengths out)) answer
+writeLeft n bodies lengths out answer = cond (places 2 answer) (numbersOfWriting (writingOf n bodies lengths out)) answer

@@ -2,15 +2,10 @@
 ghost use mathlib.Core.Path.{_≡_};
 ghost use Rattle.crpd_c.specs.Replay.{replayStatus, replayLeft};
 use crate::put::put_counts;
+use cache::numbers::byte_word;
+use project::answers::NO_TASK;
 use replay::Replaying;
 use replay::replay;
-
-// A task's number as a count.
-fn count(x: u8) -> u32
-    ensures { λ r. ⌜ r ≡ x ⌝ }
-{
-    x as u32
-}
 
 // Replay: 0, or the check that fails first; `answer` gets the task that it names (255 if none), U and D (0 and 0 after a refusal).
 // An `answer` that has not three places gives 1 and is left as it was.
@@ -27,11 +22,11 @@ pub extern "C" fn crpd_replay(file: &[u8], sheet: &[u16], answer: &mut [u32]) ->
             undisturbed,
             disturbed,
         } => {
-            put_counts(answer, 255, undisturbed, disturbed);
+            put_counts(answer, NO_TASK as u32, undisturbed, disturbed);
             0
         }
         Replaying::Refused { check, task } => {
-            put_counts(answer, count(task), 0, 0);
+            put_counts(answer, byte_word(task), 0, 0);
             check
         }
     }

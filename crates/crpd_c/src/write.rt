@@ -2,15 +2,10 @@
 ghost use mathlib.Core.Path.{_≡_};
 ghost use Rattle.crpd_c.specs.Write.{writeStatus, writeLeft, writeOut};
 use crate::put::put_two;
+use cache::numbers::byte_count;
+use project::answers::NO_TASK;
 use project::answers::Writing;
 use writer::write;
-
-// A task's number as a count.
-fn count(x: u8) -> usize
-    ensures { λ r. ⌜ r ≡ x ⌝ }
-{
-    x as usize
-}
 
 // Writer: 0, or the check that fails first; `answer` gets the task that it names (255 if none) and the length written (0 after a refusal).
 // An `answer` that has not two places gives 1, and then every list is left as it was.
@@ -31,11 +26,11 @@ pub extern "C" fn crpd_write(
     }
     match write(n, bodies, lengths, out) {
         Writing::Written { length } => {
-            put_two(answer, 255, length);
+            put_two(answer, NO_TASK as usize, length);
             0
         }
         Writing::Refused { check, task } => {
-            put_two(answer, count(task), 0);
+            put_two(answer, byte_count(task), 0);
             check
         }
     }

@@ -4,7 +4,7 @@ use mathlib.Core.Path.{_≡_, refl, sym, ap, _∙_}
 use mathlib.Core.Logic.{_≢_, _⊎_, inl, inr}
 use mathlib.Core.Bool.{Bool, true, false, true≢false, false≢true}
 use mathlib.Core.List.{List, [], _∷_}
-use Prim.Native.Nat.{ℕ, zero, suc, _+_, _-_, _≤_, _<_}
+use Prim.Native.Nat.{ℕ, zero, suc, _+_, _-_, _*_, _≤_, _<_}
 use native.Mathlib.Omega.{arith}
 use lib.Dec.{eqb, ltb}
 use lib.ListN.{length, getD, set, replicate, length-set, getD-replicate}
@@ -16,23 +16,23 @@ use Rattle.model.specs.Computed.{sameList, sorted}
 use Rattle.model.proofs.Membership.{or-cases, or-left, or-right, sameList-self, sameList-true}
 use Rattle.model.proofs.Sorted.{sorted-rising, sorted-has, sorted-only, rising-unique}
 use Rattle.rows.specs.Overlay.{overlay}
-use Rattle.rows.specs.Rows.{rowsOf, partOf}
+use Rattle.rows.specs.Rows.{Width, rowsOf, partOf}
 use Rattle.gather.specs.Graph.{Graph, rowAt, handedOn, Gets, begins, handed, Listed, tooMany}
-use Rattle.gather.specs.Memory.{heldRows, Memory, withRow, AppendedTo, Handed, FullAt}
+use Rattle.gather.specs.Memory.{heldRows, Memory, withRow, AppendedTo, Handed, FullAt, WaitingAt}
 use Rattle.gather.specs.Gathered.{GatheredRows, GatheredAs}
 use Rattle.rows.proofs.Parts.{rows-length}
 use Rattle.gather.proofs.Distinct.{Distinct, mem-getD, number-of, with-has, with-self, with-only, with-distinct, with-getD, with-length, no-longer, sorted-length}
 
 -- what holds while rows are gathered: `done` counts the rows of each block that were handed on
 pub record Gathering (g : Graph) (rows counts done : List ℕ) : Type 0 where
-  pub memory : Memory rows counts
+  pub memory : Memory (g .width) rows counts
   pub tally : length done ≡ 24
   pub behind : (b : ℕ) → b < 24 → getD done b 0 ≤ getD counts b 0
-  pub got : (b : ℕ) (row : List ℕ) → b < 24 → mem sameList row (heldRows rows counts b) ≡ true → Gets g b row
-  pub once : (b : ℕ) → b < 24 → Distinct (heldRows rows counts b)
-  pub begun : mem sameList (g .row) (heldRows rows counts (g .first)) ≡ true
+  pub got : (b : ℕ) (row : List ℕ) → b < 24 → mem sameList row (heldRows (g .width) rows counts b) ≡ true → Gets g b row
+  pub once : (b : ℕ) → b < 24 → Distinct (heldRows (g .width) rows counts b)
+  pub begun : mem sameList (g .row) (heldRows (g .width) rows counts (g .first)) ≡ true
   pub handed : (b k s : ℕ) → b < 24 → k < getD done b 0 → s < g .blocks → inSet (getD (g .sets) b 0) s ≡ true
-      → mem sameList (handedOn g b s (getD (heldRows rows counts b) k [])) (heldRows rows counts s) ≡ true
+      → mem sameList (handedOn g b s (getD (heldRows (g .width) rows counts b) k [])) (heldRows (g .width) rows counts s) ≡ true
 
 -- ---- the rows of one block before and after a row of b was handed on
 
@@ -75,31 +75,31 @@ many-before all s (suc n) h l = go (eqb s n) refl (many-before all s n)
 module _ (g : Graph) (rows counts done : List ℕ) (few : g .blocks ≤ 24) (within : g .first < g .blocks) (gathering : Gathering g rows counts done) (b : ℕ) (inside : b < 24)
     (waits : getD done b 0 < getD counts b 0) where
   abbrev row : List ℕ
-  row = getD (heldRows rows counts b) (getD done b 0) []
+  row = getD (heldRows (g .width) rows counts b) (getD done b 0) []
 
-  row-held : mem sameList row (heldRows rows counts b) ≡ true
-  row-held = mem-getD (heldRows rows counts b) (getD done b 0) (rw (rows-length (getD counts b 0) (partOf 16 rows b)) waits)
+  row-held : mem sameList row (heldRows (g .width) rows counts b) ≡ true
+  row-held = mem-getD (heldRows (g .width) rows counts b) (getD done b 0) (rw (rows-length (g .width) (getD counts b 0) (partOf (g .width) rows b)) waits)
 
-  module _ {left now counts-now : List ℕ} (leaves : left ≡ overlay row (rowAt (g .leaving) b))
-      (handedTo : Handed (getD (g .sets) b 0) left (g .entering) (g .blocks) rows counts now counts-now) where
-    step : (s : ℕ) → s < 24 → Step g b row s (heldRows rows counts s) (heldRows now counts-now s)
+  module _ {left now counts-now : List ℕ} (leaves : left ≡ overlay row (rowAt (g .width) (g .leaving) b))
+      (handedTo : Handed (g .width) (getD (g .sets) b 0) left (g .entering) (g .blocks) rows counts now counts-now) where
+    step : (s : ℕ) → s < 24 → Step g b row s (heldRows (g .width) rows counts s) (heldRows (g .width) now counts-now s)
     step s h = go (ltb s (g .blocks)) refl (inSet (getD (g .sets) b 0) s) refl
       where
-        go : (t : Bool) → ltb s (g .blocks) ≡ t → (u : Bool) → inSet (getD (g .sets) b 0) s ≡ u → Step g b row s (heldRows rows counts s) (heldRows now counts-now s)
+        go : (t : Bool) → ltb s (g .blocks) ≡ t → (u : Bool) → inSet (getD (g .sets) b 0) s ≡ u → Step g b row s (heldRows (g .width) rows counts s) (heldRows (g .width) now counts-now s)
         go true p true q =
             let l = ltb-true s (g .blocks) p in
             more l q (rw (q, leaves) at (handedTo .below s h l))
         go true p false q = same (rw q at (handedTo .below s h (ltb-true s (g .blocks) p)))
         go false p u q = same (handedTo .above s h (ltb-false s (g .blocks) p))
 
-    new-row : (s : ℕ) → s < g .blocks → inSet (getD (g .sets) b 0) s ≡ true → mem sameList (handedOn g b s row) (heldRows now counts-now s) ≡ true
+    new-row : (s : ℕ) → s < g .blocks → inSet (getD (g .sets) b 0) s ≡ true → mem sameList (handedOn g b s row) (heldRows (g .width) now counts-now s) ≡ true
     new-row s l m =
-        let e : heldRows now counts-now s ≡ withRow (handedOn g b s row) (heldRows rows counts s) = rw (m, leaves) at (handedTo .below s (omega arith) l) in
-        rw e (with-self (handedOn g b s row) (heldRows rows counts s))
+        let e : heldRows (g .width) now counts-now s ≡ withRow (handedOn g b s row) (heldRows (g .width) rows counts s) = rw (m, leaves) at (handedTo .below s (omega arith) l) in
+        rw e (with-self (handedOn g b s row) (heldRows (g .width) rows counts s))
 
     more-counts : (s : ℕ) → s < 24 → getD counts s 0 ≤ getD counts-now s 0
     more-counts s h =
-        omega (arith, step-length (step s h), rows-length (getD counts s 0) (partOf 16 rows s), rows-length (getD counts-now s 0) (partOf 16 now s))
+        omega (arith, step-length (step s h), rows-length (g .width) (getD counts s 0) (partOf (g .width) rows s), rows-length (g .width) (getD counts-now s 0) (partOf (g .width) now s))
 
     abbrev further : List ℕ
     further = set done b (getD done b 0 + 1)
@@ -117,24 +117,24 @@ module _ (g : Graph) (rows counts done : List ℕ) (few : g .blocks ≤ 24) (wit
         go true q = rw (eqb-true c b q) (omega (arith, further-here, more-counts b inside))
         go false q = omega (arith, further-other c (eqb-false c b q), more-counts c h, gathering .behind c h)
 
-    next-got : (s : ℕ) (x : List ℕ) → s < 24 → mem sameList x (heldRows now counts-now s) ≡ true → Gets g s x
+    next-got : (s : ℕ) (x : List ℕ) → s < 24 → mem sameList x (heldRows (g .width) now counts-now s) ≡ true → Gets g s x
     next-got s x h e = elim (step-only (step s h) x e)
         [ inl p ↦ gathering .got s x h p | inr p ↦ rw (p .2) (handed (gathering .got b row inside row-held) (p .0) (p .1)) ]
 
     -- a row that was there has its number still
-    kept-row : (c k : ℕ) → c < 24 → k < getD counts c 0 → getD (heldRows now counts-now c) k [] ≡ getD (heldRows rows counts c) k []
-    kept-row c k h l = step-getD (step c h) k (rw (rows-length (getD counts c 0) (partOf 16 rows c)) l)
+    kept-row : (c k : ℕ) → c < 24 → k < getD counts c 0 → getD (heldRows (g .width) now counts-now c) k [] ≡ getD (heldRows (g .width) rows counts c) k []
+    kept-row c k h l = step-getD (step c h) k (rw (rows-length (g .width) (getD counts c 0) (partOf (g .width) rows c)) l)
 
     next-handed : (c k s : ℕ) → c < 24 → k < getD further c 0 → s < g .blocks → inSet (getD (g .sets) c 0) s ≡ true
-        → mem sameList (handedOn g c s (getD (heldRows now counts-now c) k [])) (heldRows now counts-now s) ≡ true
+        → mem sameList (handedOn g c s (getD (heldRows (g .width) now counts-now c) k [])) (heldRows (g .width) now counts-now s) ≡ true
     next-handed c k s h l i m = go (eqb c b) refl (ltb k (getD done c 0)) refl
       where
-        before-now : k < getD done c 0 → mem sameList (handedOn g c s (getD (heldRows now counts-now c) k [])) (heldRows now counts-now s) ≡ true
+        before-now : k < getD done c 0 → mem sameList (handedOn g c s (getD (heldRows (g .width) now counts-now c) k [])) (heldRows (g .width) now counts-now s) ≡ true
         before-now e =
             rw (kept-row c k h (omega (arith, gathering .behind c h))) (step-has (step s (omega arith)) _ (gathering .handed c k s h e i m))
 
         go : (t : Bool) → eqb c b ≡ t → (u : Bool) → ltb k (getD done c 0) ≡ u
-            → mem sameList (handedOn g c s (getD (heldRows now counts-now c) k [])) (heldRows now counts-now s) ≡ true
+            → mem sameList (handedOn g c s (getD (heldRows (g .width) now counts-now c) k [])) (heldRows (g .width) now counts-now s) ≡ true
         go t q true p = before-now (ltb-true k (getD done c 0) p)
         go true q false p =
             let e = eqb-true c b q in
@@ -158,8 +158,8 @@ module _ (g : Graph) (rows counts done : List ℕ) (few : g .blocks ≤ 24) (wit
 
   -- ---- the end where a block is full
 
-  module _ {left now counts-now : List ℕ} (leaves : left ≡ overlay row (rowAt (g .leaving) b))
-      (full : FullAt (getD (g .sets) b 0) left (g .blocks) (g .entering) rows counts now counts-now) where
+  module _ {left now counts-now : List ℕ} (leaves : left ≡ overlay row (rowAt (g .width) (g .leaving) b))
+      (full : FullAt (g .width) (getD (g .sets) b 0) left (g .blocks) (g .entering) rows counts now counts-now) where
     abbrev s : ℕ
     s = full .block
 
@@ -176,20 +176,20 @@ module _ (g : Graph) (rows counts done : List ℕ) (few : g .blocks ≤ 24) (wit
           gathered = λ e. absurd (true≢false e);
         }
       where
-        new : mem sameList one-more (heldRows rows counts s) ≡ false
+        new : mem sameList one-more (heldRows (g .width) rows counts s) ≡ false
         new = rw leaves at (full .new)
 
         beyond : (all : ℕ → List (List ℕ)) → Listed g all → 32 < length (all s)
         beyond all listed =
             omega (
               arith,
-              no-longer (one-more ∷ heldRows rows counts s) (all s) (new, gathering .once s (omega (arith, full .inside))) has,
-              rows-length (getD counts s 0) (partOf 16 rows s),
+              no-longer (one-more ∷ heldRows (g .width) rows counts s) (all s) (new, gathering .once s (omega (arith, full .inside))) has,
+              rows-length (g .width) (getD counts s 0) (partOf (g .width) rows s),
               full .count,
             )
           where
-            has : (y : List ℕ) → mem sameList y (one-more ∷ heldRows rows counts s) ≡ true → mem sameList y (all s) ≡ true
-            has y e = listed s .1 y .1 (elim (or-cases (sameList y one-more) (mem sameList y (heldRows rows counts s)) e) [
+            has : (y : List ℕ) → mem sameList y (one-more ∷ heldRows (g .width) rows counts s) ≡ true → mem sameList y (all s) ≡ true
+            has y e = listed s .1 y .1 (elim (or-cases (sameList y one-more) (mem sameList y (heldRows (g .width) rows counts s)) e) [
               | inl p ↦ rw (sameList-true y one-more p) (handed (gathering .got b row inside row-held) (full .inside) (full .member))
               | inr p ↦ gathering .got s y (omega (arith, full .inside)) p
             ])
@@ -203,32 +203,32 @@ few-before all (suc n) h = rw (le-ltb 32 (length (all n)) (h n (omega arith))) (
 module _ (g : Graph) (rows counts done : List ℕ) (few : g .blocks ≤ 24) (within : g .first < g .blocks) (gathering : Gathering g rows counts done)
     (through : (b : ℕ) → b < 24 → getD counts b 0 ≤ getD done b 0) where
   -- the rows in memory are all that blocks get
-  closed : {b : ℕ} {x : List ℕ} → Gets g b x → (b < g .blocks) × (mem sameList x (heldRows rows counts b) ≡ true)
+  closed : {b : ℕ} {x : List ℕ} → Gets g b x → (b < g .blocks) × (mem sameList x (heldRows (g .width) rows counts b) ≡ true)
   closed begins = (within, gathering .begun)
   closed (handed {b} {s} {row} h l m) = (l, go (closed h))
     where
-      go : (b < g .blocks) × (mem sameList row (heldRows rows counts b) ≡ true) → mem sameList (handedOn g b s row) (heldRows rows counts s) ≡ true
+      go : (b < g .blocks) × (mem sameList row (heldRows (g .width) rows counts b) ≡ true) → mem sameList (handedOn g b s row) (heldRows (g .width) rows counts s) ≡ true
       go (i, e) =
-          let (k, n, q) = number-of row (heldRows rows counts b) e in
-          let k' : k < getD done b 0 = omega (arith, rows-length (getD counts b 0) (partOf 16 rows b), through b (omega arith)) in
+          let (k, n, q) = number-of row (heldRows (g .width) rows counts b) e in
+          let k' : k < getD done b 0 = omega (arith, rows-length (g .width) (getD counts b 0) (partOf (g .width) rows b), through b (omega arith)) in
           rw q at (gathering .handed b k s (omega arith) k' l m)
 
   module _ (all : ℕ → List (List ℕ)) (listed : Listed g all) (b : ℕ) (inside : b < 24) where
-    all-rows : sorted (heldRows rows counts b) ≡ all b
+    all-rows : sorted (heldRows (g .width) rows counts b) ≡ all b
     all-rows =
-        rising-unique (sorted (heldRows rows counts b)) (all b) (sorted-rising (heldRows rows counts b)) (listed b .0) (λ y. (
-          λ e. listed b .1 y .1 (gathering .got b y inside (sorted-only (heldRows rows counts b) y e)),
-          λ e. sorted-has (heldRows rows counts b) y (closed (listed b .1 y .0 e) .1),
+        rising-unique (sorted (heldRows (g .width) rows counts b)) (all b) (sorted-rising (heldRows (g .width) rows counts b)) (listed b .0) (λ y. (
+          λ e. listed b .1 y .1 (gathering .got b y inside (sorted-only (heldRows (g .width) rows counts b) y e)),
+          λ e. sorted-has (heldRows (g .width) rows counts b) y (closed (listed b .1 y .0 e) .1),
         ))
 
     all-count : getD counts b 0 ≡ length (all b)
     all-count =
-        sym (rows-length (getD counts b 0) (partOf 16 rows b))
-        ∙ sym (sorted-length (heldRows rows counts b) (gathering .once b inside))
+        sym (rows-length (g .width) (getD counts b 0) (partOf (g .width) rows b))
+        ∙ sym (sorted-length (heldRows (g .width) rows counts b) (gathering .once b inside))
         ∙ ap length all-rows
 
-    all-gathered : GatheredRows all rows counts b
-    all-gathered = record { count = all-count; list = ap (λ (n : ℕ). sorted (rowsOf 16 n (partOf 16 rows b))) (sym all-count) ∙ all-rows }
+    all-gathered : GatheredRows (g .width) all rows counts b
+    all-gathered = record { count = all-count; list = ap (λ (n : ℕ). sorted (rowsOf (g .width) n (partOf (g .width) rows b))) (sym all-count) ∙ all-rows }
 
   pub end-through : GatheredAs g rows counts false
   end-through =
@@ -241,23 +241,24 @@ module _ (g : Graph) (rows counts done : List ℕ) (few : g .blocks ≤ 24) (wit
 
 -- ---- the start: one row, and none handed on
 
-pub cleared : (rows counts : List ℕ) → length rows ≡ 12288 → counts ≡ replicate 24 0 → Memory rows counts
-cleared rows counts l e =
+pub cleared : (w : ℕ) (rows counts : List ℕ) → Width w → length rows ≡ 24 * (32 * w) → counts ≡ replicate 24 0 → Memory w rows counts
+cleared w rows counts x l e =
     record {
+      width = x;
       long = l;
       many = rw e;
       few = λ b h. rw (e, getD-replicate {A = ℕ} 24 b 0 0 h) (omega arith);
     }
 
 module _ (g : Graph) (few : g .blocks ≤ 24) (within : g .first < g .blocks) {rows counts now counts-now : List ℕ} {full : Bool} (zeros : counts ≡ replicate 24 0)
-    (appended : AppendedTo (g .first) (g .row) rows counts now counts-now full) where
-  none-held : (b : ℕ) → b < 24 → heldRows rows counts b ≡ []
-  none-held b h = ap (λ (n : ℕ). rowsOf 16 n (partOf 16 rows b)) (ap (λ (l : List ℕ). getD l b 0) zeros ∙ getD-replicate {A = ℕ} 24 b 0 0 h)
+    (appended : AppendedTo (g .width) (g .first) (g .row) rows counts now counts-now full) where
+  none-held : (b : ℕ) → b < 24 → heldRows (g .width) rows counts b ≡ []
+  none-held b h = ap (λ (n : ℕ). rowsOf (g .width) n (partOf (g .width) rows b)) (ap (λ (l : List ℕ). getD l b 0) zeros ∙ getD-replicate {A = ℕ} 24 b 0 0 h)
 
-  first-held : heldRows now counts-now (g .first) ≡ g .row ∷ []
+  first-held : heldRows (g .width) now counts-now (g .first) ≡ g .row ∷ []
   first-held = go full refl
     where
-      go : (t : Bool) → full ≡ t → heldRows now counts-now (g .first) ≡ g .row ∷ []
+      go : (t : Bool) → full ≡ t → heldRows (g .width) now counts-now (g .first) ≡ g .row ∷ []
       go true q =
           absurd (omega (arith, appended .count q, ap (λ (l : List ℕ). getD l (g .first) 0) zeros, getD-replicate {A = ℕ} 24 (g .first) 0 0 (omega arith)))
       go false q = rw (none-held (g .first) (omega arith)) at (appended .added q)
@@ -274,10 +275,10 @@ module _ (g : Graph) (few : g .blocks ≤ 24) (within : g .first < g .blocks) {r
         handed = λ b k s h l i m. absurd (omega (arith, getD-replicate {A = ℕ} 24 b 0 0 h));
       }
     where
-      other : (b : ℕ) → b < 24 → b ≢ g .first → heldRows now counts-now b ≡ []
+      other : (b : ℕ) → b < 24 → b ≢ g .first → heldRows (g .width) now counts-now b ≡ []
       other b h d = appended .others b h d ∙ none-held b h
 
-      at-start : (b : ℕ) (x : List ℕ) → b < 24 → mem sameList x (heldRows now counts-now b) ≡ true → Gets g b x
+      at-start : (b : ℕ) (x : List ℕ) → b < 24 → mem sameList x (heldRows (g .width) now counts-now b) ≡ true → Gets g b x
       at-start b x h e = go (eqb b (g .first)) refl
         where
           one : mem sameList x (g .row ∷ []) ≡ true → x ≡ g .row
@@ -286,16 +287,22 @@ module _ (g : Graph) (few : g .blocks ≤ 24) (within : g .first < g .blocks) {r
           go : (t : Bool) → eqb b (g .first) ≡ t → Gets g b x
           go true q =
               let f = eqb-true b (g .first) q in
-              let e' : mem sameList x (heldRows now counts-now (g .first)) ≡ true = rw f at e in
+              let e' : mem sameList x (heldRows (g .width) now counts-now (g .first)) ≡ true = rw f at e in
               rw (f, one (rw first-held at e')) begins
           go false q = absurd (false≢true (rw (other b h (eqb-false b (g .first) q)) at e))
 
-      once-start : (b : ℕ) → b < 24 → Distinct (heldRows now counts-now b)
+      once-start : (b : ℕ) → b < 24 → Distinct (heldRows (g .width) now counts-now b)
       once-start b h = go (eqb b (g .first)) refl
         where
-          go : (t : Bool) → eqb b (g .first) ≡ t → Distinct (heldRows now counts-now b)
+          go : (t : Bool) → eqb b (g .first) ≡ t → Distinct (heldRows (g .width) now counts-now b)
           go true q = rw (eqb-true b (g .first) q, first-held) (refl, tt)
           go false q = rw (other b h (eqb-false b (g .first) q)) tt
+
+  -- that row waits
+  pub begin-waiting : WaitingAt counts-now (replicate 24 0) (g .first)
+  begin-waiting =
+      let one = sym (rows-length (g .width) (getD counts-now (g .first) 0) (partOf (g .width) now (g .first))) ∙ ap length first-held in
+      record { waits = λ h. rw (getD-replicate {A = ℕ} 24 (g .first) 0 0 h) (omega (arith, one)); none = λ h. absurd (omega arith) }
 
 -- ---- how many turns are left: for each block as many as rows that may still be handed on
 

@@ -1,63 +1,57 @@
 -- A row handed on to the blocks of a set, block by block: a turn of the loop adds the next block.
 -- A turn changes the rows of its own block alone, so what is known of the others stays.
-use mathlib.Core.Path.{_≡_, refl, sym, ap, _∙_}
-use mathlib.Core.Bool.{Bool, true, false, not, cond, true≢false, false≢true}
+use mathlib.Core.Path.{_≡_, refl, sym, ap, ap₂, _∙_}
+use mathlib.Core.Bool.{Bool, true, false, cond, true≢false, false≢true}
 use mathlib.Core.List.{List, []}
-use Prim.Native.Nat.{ℕ, _+_, _-_, _*_, _%_, _^_, _≤_, _<_}
+use Prim.Native.Nat.{ℕ, _+_, _-_, _*_, _≤_, _<_}
 use native.Mathlib.Omega.{arith}
-use lib.Dec.{eqb}
-use lib.ListN.{length, getD, take, drop}
-use lib.Bits.{bitAnd}
-use borrow.Author.Tests.{eqb-true, eqb-false, eq-eqb, ne-eqb}
+use lib.Dec.{eqb, ltb}
+use lib.ListN.{length, getD, take, drop, length-drop}
+use borrow.Author.Tests.{eqb-true, eqb-false, ltb-true, ltb-false}
 use Rattle.cache.specs.Sets.{inSet}
-use Rattle.cache.proofs.Masks.{one-at}
 use Rattle.rows.specs.Overlay.{overlay}
 use Rattle.rows.specs.Rows.{partOf}
 use Rattle.gather.specs.Graph.{rowAt}
 use Rattle.gather.specs.Memory.{heldRows, Memory, withRow, AppendedTo, Handed, FullAt, HandedOn}
-use Rattle.rows.proofs.Parts.{rows-length, rows-at}
+use lib.Seq.{drop-drop, length-take-le}
+use Rattle.rows.proofs.Overlays.{length-overlay}
+use Rattle.rows.proofs.Parts.{row-within, rows-length, rows-at, part-of-part}
 
--- ---- the test of a bit, and the row at a block, in the code's words
+-- ---- rows in the code's words
 
-pub in-set : (set s : ℕ) → s < 24 → (bitAnd set (1 * 2 ^ s % 2 ^ 32) ≡ 0 → ⊥) → inSet set s ≡ true
-in-set set s l h = ap not (ne-eqb (bitAnd set (2 ^ s)) 0 (λ e. h (ap (bitAnd set) (one-at 32 s (omega arith)) ∙ e)))
+-- the row of w numbers at s, lent as a part from w s to w s + w
+pub part-at : (w s : ℕ) (over : List ℕ) → take (w * s + w - w * s) (drop (w * s) over) ≡ rowAt w over s
+part-at w s over = let n : w * s + w - w * s ≡ w = omega arith in rw n
 
-pub not-in-set : (set s : ℕ) → s < 24 → bitAnd set (1 * 2 ^ s % 2 ^ 32) ≡ 0 → inSet set s ≡ false
-not-in-set set s l h = ap not (eq-eqb (bitAnd set (2 ^ s)) 0 (ap (bitAnd set) (sym (one-at 32 s (omega arith))) ∙ h))
-
-pub overlaid-at : (left over : List ℕ) (s : ℕ) {row : List ℕ} → row ≡ overlay left (take (16 * s + 16 - 16 * s) (drop (16 * s) over)) → row ≡ overlay left (rowAt over s)
-overlaid-at left over s e = let n : 16 * s + 16 - 16 * s ≡ 16 = omega arith in rw n at e
-
--- the row numbered k of block b, as it leaves the block
-pub leaving-row : (rows counts over : List ℕ) (b k : ℕ) {held left : List ℕ} → k < getD counts b 0
-    → held ≡ take 16 (drop (16 * k) (take (512 * b + 512 - 512 * b) (drop (512 * b) rows))) → left ≡ overlay held (take (16 * b + 16 - 16 * b) (drop (16 * b) over))
-    → left ≡ overlay (getD (heldRows rows counts b) k []) (rowAt over b)
-leaving-row rows counts over b k {held} h e f =
-    let n : 512 * b + 512 - 512 * b ≡ 512 = omega arith in
-    let e' : held ≡ take 16 (drop (16 * k) (partOf 16 rows b)) = rw n at e in
-    overlaid-at held over b f ∙ ap (λ (x : List ℕ). overlay x (rowAt over b)) (e' ∙ sym (rows-at (getD counts b 0) k (partOf 16 rows b) h))
+-- the row numbered k of block b, lent as a part of the memory
+pub row-lent : (w : ℕ) (rows counts : List ℕ) (b k : ℕ) → k < getD counts b 0 → getD counts b 0 ≤ 32
+    → take (32 * w * b + w * k + w - (32 * w * b + w * k)) (drop (32 * w * b + w * k) rows) ≡ getD (heldRows w rows counts b) k []
+row-lent w rows counts b k h l =
+    let n : 32 * w * b + w * k + w - (32 * w * b + w * k) ≡ w = omega arith in
+    let inside : w * k + w ≤ 32 * w = omega (arith, row-within w k 32 (omega arith)) in
+    rw n (sym (rows-at w (getD counts b 0) k (partOf w rows b) h
+    ∙ part-of-part w (w * k) (32 * w) (drop (32 * w * b) rows) inside ∙ ap (take w) (drop-drop (w * k) (32 * w * b) rows)))
 
 -- ---- the turns
 
-module _ (set : ℕ) (left : List ℕ) (blocks : ℕ) (entering rows counts : List ℕ) where
-  pub handed-none : Memory rows counts → Handed set left entering 0 rows counts rows counts
+module _ (w set : ℕ) (left : List ℕ) (blocks : ℕ) (entering rows counts : List ℕ) where
+  pub handed-none : Memory w rows counts → Handed w set left entering 0 rows counts rows counts
   handed-none m = record { memory = m; below = λ b h l. absurd (omega arith); above = λ b h l. refl }
 
-  module _ (s : ℕ) (inside : s < 24) {now counts-now : List ℕ} (handed : Handed set left entering s rows counts now counts-now) where
-    pub handed-out : inSet set s ≡ false → Handed set left entering (s + 1) rows counts now counts-now
-    handed-out out = record { memory = handed .memory; below = λ b h l. at b h l (eqb b s) refl; above = λ b h l. handed .above b h (omega arith) }
-      where
-        at : (b : ℕ) → b < 24 → b < s + 1 → (t : Bool) → eqb b s ≡ t
-            → heldRows now counts-now b ≡ cond (inSet set b) (withRow (overlay left (rowAt entering b)) (heldRows rows counts b)) (heldRows rows counts b)
-        at b h l true q =
-            let e = eqb-true b s q in
-            let o : inSet set b ≡ false = rw e out in
-            handed .above b h (omega arith) ∙ sym (rw o)
-        at b h l false q = handed .below b h (omega (arith, eqb-false b s q))
+  -- blocks that are not in the set get no row
+  pub handed-past : {now counts-now : List ℕ} (s r : ℕ) → s ≤ r → ((b : ℕ) → s ≤ b → b < r → inSet set b ≡ false) → Handed w set left entering s rows counts now counts-now
+      → Handed w set left entering r rows counts now counts-now
+  handed-past {now} {counts-now} s r up out handed = record { memory = handed .memory; below = λ b h l. at b h l (ltb b s) refl; above = λ b h l. handed .above b h (omega arith) }
+    where
+      at : (b : ℕ) → b < 24 → b < r → (t : Bool) → ltb b s ≡ t
+          → heldRows w now counts-now b ≡ cond (inSet set b) (withRow (overlay left (rowAt w entering b)) (heldRows w rows counts b)) (heldRows w rows counts b)
+      at b h l true q = handed .below b h (ltb-true b s q)
+      at b h l false q = let after = ltb-false b s q in handed .above b h after ∙ sym (rw (out b after l))
 
-    module _ {row next counts-next : List ℕ} {full : Bool} (is : row ≡ overlay left (rowAt entering s)) (member : inSet set s ≡ true)
-        (appended : AppendedTo s row now counts-now next counts-next full) where
-      pub handed-in : full ≡ false → Handed set left entering (s + 1) rows counts next counts-next
+  module _ (s : ℕ) (inside : s < 24) {now counts-now : List ℕ} (handed : Handed w set left entering s rows counts now counts-now) where
+    module _ {row next counts-next : List ℕ} {full : Bool} (is : row ≡ overlay left (rowAt w entering s)) (member : inSet set s ≡ true)
+        (appended : AppendedTo w s row now counts-now next counts-next full) where
+      pub handed-in : full ≡ false → Handed w set left entering (s + 1) rows counts next counts-next
       handed-in room =
           record {
             memory = appended .memory;
@@ -66,13 +60,13 @@ module _ (set : ℕ) (left : List ℕ) (blocks : ℕ) (entering rows counts : Li
           }
         where
           at : (b : ℕ) → b < 24 → b < s + 1 → (t : Bool) → eqb b s ≡ t
-              → heldRows next counts-next b ≡ cond (inSet set b) (withRow (overlay left (rowAt entering b)) (heldRows rows counts b)) (heldRows rows counts b)
+              → heldRows w next counts-next b ≡ cond (inSet set b) (withRow (overlay left (rowAt w entering b)) (heldRows w rows counts b)) (heldRows w rows counts b)
           at b h l true q =
               let e = eqb-true b s q in
               rw (e, member) (appended .added room ∙ rw (is, handed .above s inside (omega arith)))
           at b h l false q = appended .others b h (eqb-false b s q) ∙ handed .below b h (omega (arith, eqb-false b s q))
 
-      pub handed-full : s < blocks → full ≡ true → FullAt set left blocks entering rows counts next counts-next
+      pub handed-full : s < blocks → full ≡ true → FullAt w set left blocks entering rows counts next counts-next
       handed-full inside' stop =
           record {
             block = s;
@@ -89,15 +83,53 @@ module _ (set : ℕ) (left : List ℕ) (blocks : ℕ) (entering rows counts : Li
           }
         where
           same-count : getD counts s 0 ≡ getD counts-now s 0
-          same-count = sym (rows-length (getD counts s 0) (partOf 16 rows s)) ∙ ap length (sym (handed .above s inside (omega arith))) ∙ rows-length (getD counts-now s 0) (partOf 16 now s)
+          same-count = sym (rows-length w (getD counts s 0) (partOf w rows s)) ∙ ap length (sym (handed .above s inside (omega arith))) ∙ rows-length w (getD counts-now s 0) (partOf w now s)
 
-          at : (b : ℕ) → b < 24 → s ≤ b → (t : Bool) → eqb b s ≡ t → heldRows next counts-next b ≡ heldRows rows counts b
+          at : (b : ℕ) → b < 24 → s ≤ b → (t : Bool) → eqb b s ≡ t → heldRows w next counts-next b ≡ heldRows w rows counts b
           at b h l true q = let e = eqb-true b s q in rw e (appended .kept stop ∙ handed .above s inside (omega arith))
           at b h l false q = appended .others b h (eqb-false b s q) ∙ handed .above b h l
 
-  pub handed-all : (s : ℕ) {now counts-now : List ℕ} → s ≡ blocks → Handed set left entering s rows counts now counts-now
-      → HandedOn set left blocks entering rows counts now counts-now false
+  pub handed-all : (s : ℕ) {now counts-now : List ℕ} → s ≡ blocks → Handed w set left entering s rows counts now counts-now
+      → HandedOn w set left blocks entering rows counts now counts-now false
   handed-all s e h = record { all = λ q. rw e at h; stopped = λ q. absurd (false≢true q) }
 
-  pub handed-stop : {now counts-now : List ℕ} → FullAt set left blocks entering rows counts now counts-now → HandedOn set left blocks entering rows counts now counts-now true
+  pub handed-stop : {now counts-now : List ℕ} → FullAt w set left blocks entering rows counts now counts-now → HandedOn w set left blocks entering rows counts now counts-now true
   handed-stop f = record { all = λ q. absurd (true≢false q); stopped = λ q. f }
+
+-- ---- rows that were made in a room of their own
+
+pub memory-for : {w v : ℕ} {rows counts : List ℕ} → v ≡ w → Memory w rows counts → Memory v rows counts
+memory-for e m = rw e m
+
+pub appended-as : (w s : ℕ) (made row rows counts : List ℕ) {now counts-now : List ℕ} {full : Bool} → made ≡ row → length row ≡ w
+    → AppendedTo (length made) s made rows counts now counts-now full → AppendedTo w s row rows counts now counts-now full
+appended-as w s made row rows counts e l a = rw (← l, ← e) a
+
+-- the row numbered k of block b lies within the memory, and the row at b within a row for each block
+pub within-memory : (w b k : ℕ) → b < 24 → k < 32 → 32 * w * b + w * k + w ≤ 24 * (32 * w)
+within-memory w b k h l = omega (arith, row-within (32 * w) b 24 h, row-within w k 32 l)
+
+pub within-rows : (w b : ℕ) → b < 24 → w * b + w ≤ 24 * w
+within-rows w b h = omega (arith, row-within w b 24 h)
+
+pub handed-as : (w set : ℕ) (made left : List ℕ) (blocks : ℕ) (entering rows counts : List ℕ) {now counts-now : List ℕ} {full : Bool} → made ≡ left → length left ≡ w
+    → HandedOn (length made) set made blocks entering rows counts now counts-now full → HandedOn w set left blocks entering rows counts now counts-now full
+handed-as w set made left blocks entering rows counts e l h = rw (← l, ← e) h
+
+-- a row of the memory as it leaves its block, in the code's words: both rows are lent as parts
+module _ (w : ℕ) (rows counts leaving : List ℕ) (b k : ℕ) (memory : Memory w rows counts) (each : length leaving ≡ 24 * w) (inside : b < 24) (there : k < getD counts b 0)
+    {made : List ℕ}
+    (told : made ≡ overlay (take (32 * w * b + w * k + w - (32 * w * b + w * k)) (drop (32 * w * b + w * k) rows)) (take (w * b + w - w * b) (drop (w * b) leaving))) where
+  pub left-is : made ≡ overlay (getD (heldRows w rows counts b) k []) (rowAt w leaving b)
+  left-is = told ∙ ap₂ overlay (row-lent w rows counts b k there (memory .few b inside)) (part-at w b leaving)
+
+  pub left-long : length made ≡ w
+  left-long =
+      let n : 32 * w * b + w * k + w - (32 * w * b + w * k) ≡ w = omega arith in
+      let few = memory .few b inside in
+      ap length told
+      ∙ length-overlay (take (32 * w * b + w * k + w - (32 * w * b + w * k)) (drop (32 * w * b + w * k) rows)) (take (w * b + w - w * b) (drop (w * b) leaving))
+      ∙ rw n (length-take-le w (drop (32 * w * b + w * k) rows) (simp length-drop (omega (arith, memory .long, within-memory w b k inside (omega (arith, few))))))
+
+  pub left-row : length (overlay (getD (heldRows w rows counts b) k []) (rowAt w leaving b)) ≡ w
+  left-row = ap length (sym left-is) ∙ left-long

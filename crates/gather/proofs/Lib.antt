@@ -1,5 +1,6 @@
+pub mod NextBlock
 pub mod Append
-pub mod Waiting
+pub mod Clearing
 pub mod Handing
 pub mod Distinct
 pub mod Gathering

@@ -15,6 +15,7 @@ use Rattle.rows.specs.Overlay.{overlay}
 -- a graph of blocks: a row of the block b is handed on to each block in the set of b, overlaid by the row of `leaving` at b and then
 -- by the row of `entering` at the block that gets it; it begins with one row at one block
 pub record Graph : Type 0 where
+  pub width : ℕ
   pub blocks : ℕ
   pub sets : List ℕ
   pub leaving : List ℕ
@@ -22,13 +23,13 @@ pub record Graph : Type 0 where
   pub first : ℕ
   pub row : List ℕ
 
--- the row of sixteen numbers at the block b
-abbrev pub rowAt : List ℕ → ℕ → List ℕ
-rowAt rows b = take 16 (drop (16 * b) rows)
+-- the row of w numbers at the block b
+abbrev pub rowAt : ℕ → List ℕ → ℕ → List ℕ
+rowAt w rows b = take w (drop (w * b) rows)
 
 -- what a row of b becomes at s
 abbrev pub handedOn : Graph → ℕ → ℕ → List ℕ → List ℕ
-handedOn g b s row = overlay (overlay row (rowAt (g .leaving) b)) (rowAt (g .entering) s)
+handedOn g b s row = overlay (overlay row (rowAt (g .width) (g .leaving) b)) (rowAt (g .width) (g .entering) s)
 
 -- the rows that the block b gets
 pub data Gets (g : Graph) : ℕ → List ℕ → Type 0 where

@@ -2,183 +2,229 @@
 -- The idea: the code's numbers make the two graphs, and these gather what paths make.
 use mathlib.Core.Path.{_≡_, refl, sym, ap, subst, _∙_}
 use mathlib.Core.Bool.{Bool, true, false, true≢false, _||_}
-use mathlib.Core.List.{List, _++_, map}
-use Prim.Native.Nat.{ℕ, _+_, _-_, _≤_}
+use mathlib.Core.List.{List, _++_}
+use Prim.Native.Nat.{ℕ, _+_, _*_, _-_, _≤_, _<_}
+use native.Mathlib.Nat.{sub-zero, mul-zero}
 use native.Mathlib.Omega.{arith}
 use lib.ListN.{length, replicate, take, drop, length-replicate, length-append, length-drop}
 use lib.Seq.{take-at, length-take-le}
 use borrow.Rule.Slice.PartMut.{putMid}
 use Rattle.cache.specs.References.{nothing, Real, All}
-use Rattle.cache.specs.Cache.{wide, emptyRow, withReferences}
-use Rattle.model.specs.Tasks.{Block, Task, block, memoryBlocks}
+use Rattle.cache.specs.Cache.{Cache}
+use Rattle.model.specs.Tasks.{Task, memoryBlocks}
 use Rattle.model.specs.Computed.{reaching, living}
+use Rattle.body.specs.Decode.{decode, taskOf}
+use Rattle.body.specs.Walk.{keptOf, blocksOf, startsOf}
 use Rattle.body.specs.Layout.{InBounds}
 use Rattle.body.specs.Jumps.{jumpSets}
+use Rattle.body.proofs.JumpLaws.{walked-task}
 use Rattle.body.proofs.Decoded.{blocks-real}
-use Rattle.body.proofs.Sweeps.{jumps-inside}
-use Rattle.rows.specs.Rows.{flat}
+use Rattle.body.proofs.JumpLaws.{jumps-inside}
+use Rattle.model.proofs.Narrower.{take-replicate}
+use Rattle.rows.specs.Rows.{Width, kindLength, areaLength}
 use Rattle.rows.proofs.Parts.{replaced-length, replaced-here, replaced-before, lent-back}
-use Rattle.gather.specs.Graph.{Listed, rowAt, tooMany}
+use Rattle.gather.specs.Graph.{Graph, Listed, rowAt, tooMany}
 use Rattle.gather.specs.Gathered.{GatherInput, GatheredAs, graphOf}
-use Rattle.graphs.specs.Graphs.{firstRows, lastRows, noRows, reachGraph, liveGraph}
-use Rattle.graphs.specs.Turned.{turned}
-use Rattle.graphs.specs.TaskRows.{KindRows, TaskRows, AreaRows}
-use Rattle.graphs.proofs.Listed.{row-of, last-long, reach-listed, live-listed}
+use Rattle.graphs.specs.Graphs.{firstRows, lastRows, noRows, reachGraph, liveGraph, reachOf, liveOf}
+use Rattle.graphs.specs.TaskRows.{KindRows, TaskRows, AreaRows, BothGathered}
+use Rattle.graphs.proofs.Listed.{last-at, reach-listed, live-listed}
 use Rattle.graphs.proofs.Turning.{turned-predecessors}
 
--- ---- the graphs, in the code's words
+-- ---- rooms, in the code's words
 
--- an array of nothings
-pub nothings : replicate 384 65535 ≡ noRows
+-- the first numbers of a room of nothings
+pub nothings : (n m : ℕ) → n ≤ m → take (n - 0) (drop 0 (replicate m 65535)) ≡ replicate n nothing
 unfolding nothing
-nothings = refl
+nothings n m h = rw (sub-zero n) (take-replicate n m nothing h)
 
-pub empty-cells : replicate 16 65535 ≡ replicate 16 nothing
-unfolding nothing
-empty-cells = refl
+-- the row at the first block
+pub first-row : (w : ℕ) (l : List ℕ) → take (w - 0) (drop 0 l) ≡ rowAt w l 0
+first-row w l = rw (sub-zero w, mul-zero w)
 
--- equal sets, rows and first row make the same graph
-pub same-graph : {blocks first : ℕ} {sets sets' leaving leaving' entering entering' row row' rows counts : List ℕ} {full : Bool}
-    → sets ≡ sets' → leaving ≡ leaving' → entering ≡ entering' → row ≡ row'
-    → GatheredAs (graphOf blocks sets leaving entering first row) rows counts full → GatheredAs (graphOf blocks sets' leaving' entering' first row') rows counts full
-same-graph {blocks} {first} {rows = rows} {counts = counts} {full = full} es el ee er =
-    subst (λ g. GatheredAs g rows counts full) (λ i. record { blocks = blocks; sets = es i; leaving = el i; entering = ee i; first = first; row = er i })
+pub first-wide : (w : ℕ) (l : List ℕ) → w ≤ length l → length (take (w - 0) (drop 0 l)) ≡ w
+first-wide w l h = rw (sub-zero w) (length-take-le w l h)
 
--- what gathering takes, for a task within the bounds
-pub reach-input : (t : Task) → InBounds t → {blocks : ℕ} {sets last rows counts : List ℕ} → blocks ≡ length t → length sets ≡ 24 → length last ≡ 384 → length rows ≡ 12288
-    → length counts ≡ 24 → GatherInput blocks sets noRows last 0 rows counts
-reach-input t bounds eb es el er ec =
-    record { few = omega (arith, bounds .few); inside = omega (arith, bounds .some); each = es; leaves = length-replicate 384 nothing; enters = el; long = er; many = ec }
+-- ---- the task of a body
 
-pub live-input : (t : Task) → InBounds t → {blocks : ℕ} {sets first rows counts : List ℕ} → blocks ≡ length t → length sets ≡ 24 → length first ≡ 384 → length rows ≡ 12288
-    → length counts ≡ 24 → GatherInput blocks sets first noRows (blocks - 1) rows counts
-live-input t bounds eb es ef er ec =
-    record { few = omega (arith, bounds .few); inside = omega (arith, bounds .some); each = es; leaves = ef; enters = length-replicate 384 nothing; long = er; many = ec }
+pub kept-bounds : (body : List ℕ) → keptOf (decode body) ≡ true → InBounds (taskOf (decode body))
+kept-bounds body e = let f = walked-task body (blocksOf (decode body)) (startsOf (decode body)) e refl refl in rw (f .same) (f .bounds)
 
--- ---- the states of a task
+-- ---- the graphs
 
-module _ (n : ℕ) (t : Task) (bounds : InBounds t) where
-  real : All Real (memoryBlocks t)
-  real = blocks-real (length t) t (bounds .each)
+-- equal widths, sets, rows and first rows make the same graph
+pub same-graph : {w w' blocks first : ℕ} {sets sets' leaving leaving' entering entering' row row' rows counts : List ℕ} {full : Bool}
+    → w ≡ w' → sets ≡ sets' → leaving ≡ leaving' → entering ≡ entering' → row ≡ row'
+    → GatheredAs (graphOf w blocks sets leaving entering first row) rows counts full → GatheredAs (graphOf w' blocks sets' leaving' entering' first row') rows counts full
+same-graph {blocks = blocks} {first = first} {rows = rows} {counts = counts} {full = full} ew es el ee er =
+    subst (λ g. GatheredAs g rows counts full) (λ i. record { width = ew i; blocks = blocks; sets = es i; leaving = el i; entering = ee i; first = first; row = er i })
 
-  entry-row : rowAt (lastRows n t) 0 ≡ withReferences (wide 16 n) (emptyRow (wide 16 n)) (block t 0 .references)
-  entry-row =
-      let f : Block → List ℕ = λ x. withReferences (wide 16 n) (emptyRow (wide 16 n)) (x .references) in
-      row-of f t (replicate (384 - length (flat (map f t))) nothing) (last-long n) 0 (bounds .some)
+-- what gathering takes
+module _ (w blocks : ℕ) {sets rows counts : List ℕ} (width : Width w) (some : 0 < blocks) (few : blocks ≤ 24) (each : length sets ≡ 24)
+    (long : length rows ≡ kindLength w) (many : length counts ≡ 24) where
+  pub reach-input : {last : List ℕ} → length last ≡ 24 * w → GatherInput w blocks sets (noRows w) last 0 rows counts
+  reach-input e = record {
+    width = width;
+    few = few;
+    inside = some;
+    each = each;
+    leaves = length-replicate (24 * w) nothing;
+    enters = e;
+    long = long;
+    many = many;
+  }
 
-  pub reaching-kind : {blocks : ℕ} {sets last rows counts : List ℕ} {full : Bool} → blocks ≡ length t → sets ≡ jumpSets t → last ≡ lastRows n t
-      → GatheredAs (graphOf blocks sets noRows last 0 (rowAt last 0)) rows counts full → KindRows (reaching (wide 16 n) t) rows counts full
-  reaching-kind {blocks} {sets} {last} {rows} {counts} {full} eb es el h =
-      record {
-        long = h .long;
-        many = h .many;
-        answer = there .answer (reaching (wide 16 n) t) listed;
-        gathered = λ q. there .gathered q (reaching (wide 16 n) t) listed;
-      }
-    where
-      same : graphOf blocks sets noRows last 0 (rowAt last 0) ≡ reachGraph n t
-      same = λ i. record { blocks = eb i; sets = es i; leaving = noRows; entering = el i; first = 0; row = (ap (λ l. rowAt l 0) el ∙ entry-row) i }
-
-      there : GatheredAs (reachGraph n t) rows counts full
-      there = subst (λ g. GatheredAs g rows counts full) same h
-
-      listed : Listed (reachGraph n t) (reaching (wide 16 n) t)
-      listed = reach-listed n t (bounds .few) (bounds .some) real (jumps-inside t bounds)
-
-  pub live-kind : {blocks : ℕ} {sets first rows counts : List ℕ} {full : Bool} → blocks ≡ length t → sets ≡ jumpSets t → first ≡ firstRows n t
-      → GatheredAs (graphOf blocks (turned sets blocks) first noRows (blocks - 1) (replicate 16 nothing)) rows counts full
-      → KindRows (living (wide 16 n) t) rows counts full
-  live-kind {blocks} {sets} {first} {rows} {counts} {full} eb es ef h =
-      record {
-        long = h .long;
-        many = h .many;
-        answer = there .answer (living (wide 16 n) t) listed;
-        gathered = λ q. there .gathered q (living (wide 16 n) t) listed;
-      }
-    where
-      same : graphOf blocks (turned sets blocks) first noRows (blocks - 1) (replicate 16 nothing) ≡ liveGraph n t
-      same = λ i. record {
-        blocks = eb i;
-        sets = turned-predecessors t blocks sets bounds (sym eb) es i;
-        leaving = ef i;
-        entering = noRows;
-        first = eb i - 1;
-        row = replicate 16 nothing;
-      }
-
-      there : GatheredAs (liveGraph n t) rows counts full
-      there = subst (λ g. GatheredAs g rows counts full) same h
-
-      listed : Listed (liveGraph n t) (living (wide 16 n) t)
-      listed = live-listed n t (bounds .few) (bounds .some) real (jumps-inside t bounds)
-
--- ---- both kinds together
-
--- too many reaching states: the live ones are not asked for
-pub reaching-full : (n : ℕ) (t : Task) {rows counts live liveCounts : List ℕ} {full : Bool} → full ≡ true → KindRows (reaching (wide 16 n) t) rows counts full
-    → length live ≡ 12288 → length liveCounts ≡ 24 → TaskRows n t rows counts live liveCounts true
-reaching-full n t e h long many =
-    record {
-      reachingLong = h .long;
-      reachingMany = h .many;
-      liveLong = long;
-      liveMany = many;
-      answer = ap (λ x. x || tooMany (living (wide 16 n) t) 24) (sym e ∙ h .answer);
-      reached = λ q. absurd (true≢false q);
-      lived = λ q. absurd (true≢false q);
-    }
-
-pub both-kinds : (n : ℕ) (t : Task) {rows counts live liveCounts : List ℕ} {full full' : Bool} → full ≡ false → KindRows (reaching (wide 16 n) t) rows counts full
-    → KindRows (living (wide 16 n) t) live liveCounts full' → TaskRows n t rows counts live liveCounts full'
-both-kinds n t e h l =
-    record {
-      reachingLong = h .long;
-      reachingMany = h .many;
-      liveLong = l .long;
-      liveMany = l .many;
-      answer = l .answer ∙ ap (λ x. x || tooMany (living (wide 16 n) t) 24) (sym e ∙ h .answer);
-      reached = λ q. h .gathered e;
-      lived = l .gathered;
-    }
+  pub live-input : {first : List ℕ} → length first ≡ 24 * w → GatherInput w blocks sets first (noRows w) (blocks - 1) rows counts
+  live-input e = record {
+    width = width;
+    few = few;
+    inside = omega arith;
+    each = each;
+    leaves = e;
+    enters = length-replicate (24 * w) nothing;
+    long = long;
+    many = many;
+  }
 
 -- ---- both kinds in a work area, one part after the other
 
-module _ (area new : List ℕ) (long : length area ≡ 24832) (size : length new ≡ 12288) where
+module _ (kind : ℕ) (area new : List ℕ) (long : length area ≡ 2 * kind + 256) (size : length new ≡ kind) where
+  -- the area once the reaching states are in its first part
   abbrev half : List ℕ
-  half = new ++ drop 12288 area
+  half = putMid 0 (kind - 0) area new
 
-  pub half-long : length half ≡ 24832
-  half-long = length-append new (drop 12288 area) ∙ rw (size, length-drop 12288 area, long)
+  half-is : half ≡ new ++ drop kind area
+  half-is = ap (λ (i : ℕ). new ++ drop i area) (sub-zero kind)
 
-  half-first : take 12288 half ≡ new
-  half-first = take-at new (drop 12288 area) 12288 size
+  pub half-long : length half ≡ 2 * kind + 256
+  half-long = ap length half-is ∙ length-append new (drop kind area) ∙ rw (size, length-drop kind area, long) (omega arith)
 
-  pub half-live : length (take 12288 (drop 12288 half)) ≡ 12288
-  half-live = length-take-le 12288 (drop 12288 half) (rw (length-drop 12288 half, half-long) (omega arith))
+  half-first : take kind half ≡ new
+  half-first = ap (take kind) half-is ∙ take-at new (drop kind area) kind size
 
-  -- too many reaching states
-  pub area-full : (n : ℕ) (t : Task) {counts lived : List ℕ} {full : Bool} → full ≡ true → KindRows (reaching (wide 16 n) t) new counts full → length lived ≡ 24 → AreaRows n t half counts lived true
-  area-full n t e h many = record { long = half-long; rows = rw half-first (reaching-full n t e h half-live many) }
+  -- the part for the live states
+  pub half-live : length (take (kind + kind - kind) (drop kind half)) ≡ kind
+  half-live =
+      let e : kind + kind - kind ≡ kind = omega arith in
+      rw e (length-take-le kind (drop kind half) (rw (length-drop kind half, half-long) (omega arith)))
 
-  module _ (live : List ℕ) (size' : length live ≡ 12288) where
+  module _ (live : List ℕ) (size' : length live ≡ kind) where
+    -- and the live states in its second part
     abbrev whole : List ℕ
-    whole = putMid 12288 12288 half live
+    whole = putMid kind (kind + kind - kind) half live
 
-    whole-is : whole ≡ take 12288 half ++ (live ++ drop (12288 + 12288) half)
-    whole-is = lent-back 12288 12288 half live
+    whole-is : whole ≡ take kind half ++ (live ++ drop (kind + kind) half)
+    whole-is = lent-back kind kind half live
 
-    fits : 12288 + 12288 ≤ length half
+    fits : kind + kind ≤ length half
     fits = rw half-long (omega arith)
 
-    pub whole-long : length whole ≡ 24832
-    whole-long = ap length whole-is ∙ replaced-length half live 12288 12288 fits size' ∙ half-long
+    pub whole-long : length whole ≡ 2 * kind + 256
+    whole-long = ap length whole-is ∙ replaced-length half live kind kind fits size' ∙ half-long
 
-    whole-first : take 12288 whole ≡ new
-    whole-first = ap (take 12288) whole-is ∙ replaced-before half live 12288 12288 fits size' 12288 0 (omega arith) ∙ half-first
+    whole-first : take kind whole ≡ new
+    whole-first = ap (take kind) whole-is ∙ replaced-before half live kind kind fits size' kind 0 (omega arith) ∙ half-first
 
-    whole-second : take 12288 (drop 12288 whole) ≡ live
-    whole-second = ap (λ (l : List ℕ). take 12288 (drop 12288 l)) whole-is ∙ replaced-here half live 12288 12288 fits size'
+    whole-second : take kind (drop kind whole) ≡ live
+    whole-second = ap (λ (l : List ℕ). take kind (drop kind l)) whole-is ∙ replaced-here half live kind kind fits size'
 
-    pub area-both : (n : ℕ) (t : Task) {counts lived : List ℕ} {full full' : Bool} → full ≡ false → KindRows (reaching (wide 16 n) t) new counts full
-        → KindRows (living (wide 16 n) t) live lived full' → AreaRows n t whole counts lived full'
-    area-both n t e h l = record { long = whole-long; rows = rw (whole-first, whole-second) (both-kinds n t e h l) }
+module _ (r l : Graph) (area new : List ℕ) (long : length area ≡ areaLength (r .width)) {counts : List ℕ} {first : Bool} (h : GatheredAs r new counts first) where
+  abbrev n : ℕ
+  n = kindLength (r .width)
+
+  pub both-full : {lived : List ℕ} → first ≡ true → length lived ≡ 24 → BothGathered r l (putMid 0 (kindLength (r .width) - 0) area new) counts lived true
+  both-full e many = record {
+    long = half-long n area new long (h .long);
+    many = many;
+    first = first;
+    reaching = rw (half-first n area new long (h .long)) h;
+    stopped = λ q. refl;
+    live = λ q. absurd (true≢false (sym e ∙ q));
+  }
+
+  pub both-all : {live lived : List ℕ} {full : Bool} → first ≡ false → l .width ≡ r .width → GatheredAs l live lived full
+      → BothGathered r l (putMid (kindLength (r .width)) (kindLength (r .width) + kindLength (r .width) - kindLength (r .width)) (putMid 0 (kindLength (r .width) - 0) area new) live) counts lived full
+  both-all {live} e same g =
+      let size : length live ≡ kindLength (r .width) = g .long ∙ ap kindLength same in
+      record {
+        long = whole-long n area new long (h .long) live size;
+        many = g .many;
+        first = first;
+        reaching = rw (whole-first n area new long (h .long) live size) h;
+        stopped = λ q. absurd (true≢false (sym q ∙ e));
+        live = λ q. rw (whole-second n area new long (h .long) live size) g;
+      }
+
+-- ---- the states of a task
+
+module _ (k : Cache) (t : Task) (bounds : InBounds t) {blocks : ℕ} {sets : List ℕ} (eb : blocks ≡ length t) (es : sets ≡ jumpSets t) where
+  abbrev w : ℕ
+  w = k .width
+
+  real : All Real (memoryBlocks t)
+  real = blocks-real (length t) t (bounds .each)
+
+  reach-same : {last : List ℕ} → last ≡ lastRows k t → reachOf w blocks sets last ≡ reachGraph k t
+  reach-same el = λ i. record {
+    width = w;
+    blocks = eb i;
+    sets = es i;
+    leaving = noRows w;
+    entering = el i;
+    first = 0;
+    row = (ap (λ l. rowAt w l 0) el ∙ last-at k t 0 (bounds .some)) i;
+  }
+
+  live-same : {first : List ℕ} → first ≡ firstRows k t → liveOf w blocks sets first ≡ liveGraph k t
+  live-same ef = λ i. record {
+    width = w;
+    blocks = eb i;
+    sets = turned-predecessors t blocks sets bounds (sym eb) es i;
+    leaving = ef i;
+    entering = noRows w;
+    first = eb i - 1;
+    row = replicate w nothing;
+  }
+
+  reach-listing : Listed (reachGraph k t) (reaching k t)
+  reach-listing = reach-listed k t (bounds .few) (bounds .some) real (jumps-inside t bounds)
+
+  live-listing : Listed (liveGraph k t) (living k t)
+  live-listing = live-listed k t (bounds .few) (bounds .some) real (jumps-inside t bounds)
+
+  pub reaching-kind : {last rows counts : List ℕ} {full : Bool} → last ≡ lastRows k t → GatheredAs (reachOf (k .width) blocks sets last) rows counts full
+      → KindRows (k .width) (reaching k t) rows counts full
+  reaching-kind {rows = rows} {counts = counts} {full = full} el h =
+      let there = subst (λ g. GatheredAs g rows counts full) (reach-same el) h in
+      record {
+        long = h .long;
+        many = h .many;
+        answer = there .answer (reaching k t) reach-listing;
+        gathered = λ q. there .gathered q (reaching k t) reach-listing;
+      }
+
+  module _ {area reached lived : List ℕ} {full : Bool} (h : BothGathered (reachGraph k t) (liveGraph k t) area reached lived full) where
+    pub task-rows : (b : Bool) → h .first ≡ b → TaskRows k t (take (kindLength (k .width)) area) reached (take (kindLength (k .width)) (drop (kindLength (k .width)) area)) lived full
+    task-rows true e = record {
+      reachingLong = h .reaching .long;
+      reachingMany = h .reaching .many;
+      liveLong = length-take-le (kindLength w) (drop (kindLength w) area) (rw (length-drop (kindLength w) area, h .long) (omega arith));
+      liveMany = h .many;
+      answer = h .stopped e ∙ ap (λ x. x || tooMany (living k t) 24) (sym e ∙ h .reaching .answer (reaching k t) reach-listing);
+      reached = λ q. absurd (true≢false (sym (h .stopped e) ∙ q));
+      lived = λ q. absurd (true≢false (sym (h .stopped e) ∙ q));
+    }
+    task-rows false e = record {
+      reachingLong = h .reaching .long;
+      reachingMany = h .reaching .many;
+      liveLong = h .live e .long;
+      liveMany = h .many;
+      answer = h .live e .answer (living k t) live-listing ∙ ap (λ x. x || tooMany (living k t) 24) (sym e ∙ h .reaching .answer (reaching k t) reach-listing);
+      reached = λ q. h .reaching .gathered e (reaching k t) reach-listing;
+      lived = λ q. h .live e .gathered q (living k t) live-listing;
+    }
+
+  pub area-rows : {first last area reached lived : List ℕ} {full : Bool} → first ≡ firstRows k t → last ≡ lastRows k t
+      → BothGathered (reachOf (k .width) blocks sets last) (liveOf (k .width) blocks sets first) area reached lived full → AreaRows k t area reached lived full
+  area-rows {area = area} {reached = reached} {lived = lived} {full = full} ef el h =
+      let there = subst (λ (g : Graph × Graph). BothGathered (g .0) (g .1) area reached lived full) (λ i. (reach-same el i, live-same ef i)) h in
+      record { long = h .long; rows = task-rows there (h .first) refl }

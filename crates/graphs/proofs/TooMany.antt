@@ -94,7 +94,7 @@ module _ (w n : ℕ) (pos : 0 < n) (wide-enough : n ≤ w) (t : Task) (few : len
         λ x. let h = more-32 (Lives k t b) (living k t b) (living-rising k t b) (living-rows k t b) x in omega arith,
       )
 
-  pub test11-exact : (test11 w n t ≡ true) ↔ Fault11 (direct n) t
+  pub test11-exact : (test11 (wide w n) t ≡ true) ↔ Fault11 (direct n) t
   test11-exact = (λ e. there (or-cases (tooMany (reaching (wide w n) t) 24) (tooMany (living (wide w n) t) 24) e), back)
     where
       there : (tooMany (reaching (wide w n) t) 24 ≡ true) ⊎ (tooMany (living (wide w n) t) 24 ≡ true) → Fault11 (direct n) t
@@ -109,7 +109,7 @@ module _ (w n : ℕ) (pos : 0 < n) (wide-enough : n ≤ w) (t : Task) (few : len
           let (row, (p, path, q)) = a-state x in
           (b, path-first t path, inr x)
 
-      back : Fault11 (direct n) t → test11 w n t ≡ true
+      back : Fault11 (direct n) t → test11 (wide w n) t ≡ true
       back (b, l, inl x) =
           or-left (tooMany (reaching (wide w n) t) 24) (tooMany (living (wide w n) t) 24) (many-before (reaching (wide w n) t) b 24 (omega arith) (reaching-33 b .1 x))
       back (b, l, inr x) =

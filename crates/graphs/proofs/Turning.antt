@@ -1,4 +1,4 @@
--- Sets turned round: a turn of the loop that makes them, and that the jump sets of a task turned round are its sets of predecessors.
+-- The jump sets of a task turned round are its sets of predecessors.
 -- The idea: a block that is not there has no successors, and is no successor.
 use mathlib.Core.Path.{_≡_, refl, sym, ap, ap₂, _∙_}
 use mathlib.Core.Bool.{Bool, false}
@@ -17,28 +17,11 @@ use Rattle.model.specs.Tasks.{Task, block}
 use Rattle.model.proofs.Paths.{successor-below}
 use Rattle.body.specs.Layout.{InBounds}
 use Rattle.body.specs.Jumps.{jumpSets}
-use Rattle.body.proofs.Sweeps.{jump-at, jumps-inside}
+use Rattle.body.proofs.JumpLaws.{jump-at, jumps-inside}
 use Rattle.gather.proofs.Distinct.{not-true}
 use Rattle.graphs.specs.Graphs.{predecessorSet, predecessorSets}
-use Rattle.graphs.specs.Turned.{leadingTo, turned}
+use Rattle.body.specs.Turned.{leadingTo, turned}
 use Rattle.graphs.proofs.Listed.{in-setOf}
-
--- ---- the loop
-
--- the numbers up to s, and zeros up to 24
-abbrev pub madeTo : (ℕ → ℕ) → ℕ → List ℕ
-madeTo f s = rowFrom 0 s f ++ replicate (24 - s) 0
-
-stored : (f : ℕ → ℕ) (c s k : ℕ) → set (rowFrom c s f ++ replicate (suc k) 0) s (f (c + s)) ≡ rowFrom c (suc s) f ++ replicate k 0
-stored f c zero k = ap (λ i. f i ∷ replicate k 0) (add-zero c)
-stored f c (suc s) k = ap (λ l. f c ∷ l) (ap (λ i. set (rowFrom (suc c) s f ++ replicate (suc k) 0) s (f i)) (add-suc c s ∙ sym (suc-add c s)) ∙ stored f (suc c) s k)
-
-pub made-turn : (f : ℕ → ℕ) (s : ℕ) {l now : List ℕ} {x : ℕ} → s < 24 → l ≡ madeTo f s → x ≡ f s → now ≡ set l s x → now ≡ madeTo f (s + 1)
-made-turn f s h el ex en =
-    let e : 24 - s ≡ suc (24 - suc s) = omega arith in
-    en ∙ rw (el, ex, add-one s, e) (ap (λ i. set (rowFrom 0 s f ++ replicate (suc (24 - suc s)) 0) s (f i)) (sym (zero-add s)) ∙ stored f 0 s (24 - suc s))
-
--- ---- sets of predecessors
 
 -- a wider set has the same members where none is added
 wider : (w k : ℕ) (P : ℕ → Bool) → ((c : ℕ) → w ≤ c → P c ≡ false) → bits (k + w) P ≡ bits w P

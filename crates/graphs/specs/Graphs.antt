@@ -1,31 +1,33 @@
 -- The graphs along which the states of a task are gathered. Definitions only.
 use mathlib.Core.Bool.{Bool}
 use mathlib.Core.List.{List, [], _∷_, _++_, map}
-use Prim.Native.Nat.{ℕ, zero, suc, _-_}
+use Prim.Native.Nat.{ℕ, zero, suc, _*_, _-_}
 use lib.Dec.{eqb}
 use lib.ListN.{length, replicate}
 use Rattle.cache.specs.References.{nothing}
-use Rattle.cache.specs.Cache.{wide, emptyRow, withReferences, firstReferences}
+use Rattle.cache.specs.Cache.{Cache, emptyRow, withReferences, firstReferences}
 use Rattle.cache.specs.Sets.{bits}
 use Rattle.model.specs.Lists.{mem}
 use Rattle.model.specs.Tasks.{Block, Task, block, end}
 use Rattle.body.specs.Jumps.{jumpSets}
-use Rattle.gather.specs.Graph.{Graph}
+use Rattle.body.specs.Turned.{turned}
+use Rattle.gather.specs.Graph.{Graph, rowAt}
+use Rattle.gather.specs.Gathered.{graphOf}
 use Rattle.rows.specs.Rows.{flat}
 
--- a row for each of 24 blocks, and the row of nothings for a block that is not there
-abbrev pub rowsFor : (Block → List ℕ) → Task → List ℕ
-rowsFor f t = flat (map f t) ++ replicate (384 - length (flat (map f t))) nothing
+-- a row of w numbers for each of 24 blocks, and the row of nothings for a block that is not there
+abbrev pub rowsFor : ℕ → (Block → List ℕ) → Task → List ℕ
+rowsFor w f t = flat (map f t) ++ replicate (24 * w - length (flat (map f t))) nothing
 
 -- the last and the first references of each block
-abbrev pub lastRows : ℕ → Task → List ℕ
-lastRows n t = rowsFor (λ (x : Block). withReferences (wide 16 n) (emptyRow (wide 16 n)) (x .references)) t
+abbrev pub lastRows : Cache → Task → List ℕ
+lastRows k t = rowsFor (k .width) (λ (x : Block). withReferences k (emptyRow k) (x .references)) t
 
-abbrev pub firstRows : ℕ → Task → List ℕ
-firstRows n t = rowsFor (λ (x : Block). firstReferences (wide 16 n) (x .references)) t
+abbrev pub firstRows : Cache → Task → List ℕ
+firstRows k t = rowsFor (k .width) (λ (x : Block). firstReferences k (x .references)) t
 
-abbrev pub noRows : List ℕ
-noRows = replicate 384 nothing
+abbrev pub noRows : ℕ → List ℕ
+noRows w = replicate (24 * w) nothing
 
 -- the set of the predecessors of the block s
 abbrev pub predecessorSet : Task → ℕ → ℕ
@@ -37,23 +39,35 @@ predecessorSets t zero s = []
 predecessorSets t (suc left) s = predecessorSet t s ∷ predecessorSets t left (suc s)
 
 -- reaching states go on to successors, and a block's last references are laid over what reaches it
-abbrev pub reachGraph : ℕ → Task → Graph
-reachGraph n t = record {
+abbrev pub reachGraph : Cache → Task → Graph
+reachGraph k t = record {
+  width = k .width;
   blocks = length t;
   sets = jumpSets t;
-  leaving = noRows;
-  entering = lastRows n t;
+  leaving = noRows (k .width);
+  entering = lastRows k t;
   first = 0;
-  row = withReferences (wide 16 n) (emptyRow (wide 16 n)) (block t 0 .references);
+  row = withReferences k (emptyRow k) (block t 0 .references);
 }
 
 -- live states go back to predecessors, and a block's first references are laid over what is live after it
-abbrev pub liveGraph : ℕ → Task → Graph
-liveGraph n t = record {
+abbrev pub liveGraph : Cache → Task → Graph
+liveGraph k t = record {
+  width = k .width;
   blocks = length t;
   sets = predecessorSets t 24 0;
-  leaving = firstRows n t;
-  entering = noRows;
+  leaving = firstRows k t;
+  entering = noRows (k .width);
   first = end t;
-  row = emptyRow (wide 16 n);
+  row = emptyRow k;
 }
+
+-- ---- the same graphs as the code makes them
+
+-- the graph of reaching states, of the sets of successors and the last references, in rows of w numbers
+abbrev pub reachOf : ℕ → ℕ → List ℕ → List ℕ → Graph
+reachOf w blocks sets last = graphOf w blocks sets (noRows w) last 0 (rowAt w last 0)
+
+-- the graph of live states, of the same sets and the first references
+abbrev pub liveOf : ℕ → ℕ → List ℕ → List ℕ → Graph
+liveOf w blocks sets first = graphOf w blocks (turned sets blocks) first (noRows w) (blocks - 1) (replicate w nothing)

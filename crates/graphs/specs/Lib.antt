@@ -1,3 +1,2 @@
 pub mod Graphs
 pub mod TaskRows
-pub mod Turned

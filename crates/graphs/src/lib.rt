@@ -1,4 +1,3 @@
 // The graphs along which the states of a task are gathered.
-pub mod predecessors;
 pub mod prepare;
 pub mod task_rows;

@@ -9,7 +9,7 @@ use Prim.Native.Nat.{ℕ, suc, _+_, _≤_}
 use native.Mathlib.Omega.{arith}
 use lib.Dec.{eqb}
 use Rattle.cache.specs.References.{Real, All}
-use Rattle.cache.specs.Cache.{Cache, direct, emptyRow, withReferences, misses}
+use Rattle.cache.specs.Cache.{Cache, emptyRow, withReferences, misses}
 use Rattle.cache.specs.Firsts.{firstsOver}
 use Rattle.cache.specs.Sets.{usefulUsed}
 use Rattle.cache.proofs.Rows.{length-emptyRow, firstReferences-fold}
@@ -138,13 +138,12 @@ module _ (ts : List Task) (ok : Rules ts) (p : ℕ) where
 
 -- ---- the bounds
 
-sum-weigh : (n : ℕ) (ts : List Task) (p : ℕ) (xs : List Preemption) → weigh (number (usefulUsed (direct n)) (direct n) ts p) xs ≡ pairSum n ts p xs
-sum-weigh n ts p [] = refl
-sum-weigh n ts p (x ∷ xs) = omega (arith, sum-weigh n ts p xs)
+sum-weigh : (k : Cache) (ts : List Task) (p : ℕ) (xs : List Preemption) → weigh (number (usefulUsed k) k ts p) xs ≡ pairSum k ts p xs
+sum-weigh k ts p [] = refl
+sum-weigh k ts p (x ∷ xs) = omega (arith, sum-weigh k ts p xs)
 
-pub bounded : (n : ℕ) (ts : List Task) → Rules ts → (r : DisturbedRun ts) → Bounded n ts r
-bounded n ts ok r =
-    let k = direct n in
+pub bounded : (k : Cache) (ts : List Task) → Rules ts → (r : DisturbedRun ts) → Bounded k ts r
+bounded k ts ok r =
     let t = task ts (r .p) in
     let es = runEvents ts t (r .preemptions) 0 (r .path) in
     let u = undisturbed k ts t (r .path) ∙ sym (ap (misses k (emptyRow k)) (own-run ts t (r .preemptions) 0 (r .path))) in
@@ -157,6 +156,6 @@ bounded n ts ok r =
         d,
         upper-used k (mine ts ok (r .p)) es (emptyRow k) (length-emptyRow k) a,
         total-le (usefulUsed k) k ts (r .p) (r .path) (r .preemptions) (r .each) (r .complete),
-        sum-weigh n ts (r .p) (r .preemptions),
+        sum-weigh k ts (r .p) (r .preemptions),
       ),
     )

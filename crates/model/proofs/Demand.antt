@@ -7,7 +7,7 @@ use Prim.Native.Nat.{ℕ, suc, _+_, _<_}
 use native.Mathlib.Nat.{zero-add}
 use native.Mathlib.Omega.{arith}
 use lib.ListN.{length, length-append}
-use Rattle.cache.specs.Cache.{Cache, direct, emptyRow, withReferences, firstReferences}
+use Rattle.cache.specs.Cache.{Cache, emptyRow, withReferences, firstReferences}
 use Rattle.cache.specs.Sets.{usefulUsed}
 use Rattle.cache.proofs.Rows.{length-emptyRow, firstReferences-fold}
 use Rattle.model.specs.Tasks.{Task, PathFrom, Complete, OnCompletePath, references, task, Rules}
@@ -22,10 +22,7 @@ use Rattle.model.proofs.Disjoint.{exact-at}
 use Rattle.model.proofs.RunEvents.{count-events, undisturbed, run-once}
 use Rattle.model.proofs.Bounds.{bounded, mine, apart-run}
 
-module _ (n : ℕ) (ts : List Task) (ok : Rules ts) (i j : ℕ) (hi : i < length ts) (hj : j < length ts) (ne : j ≢ i) where
-  abbrev k : Cache
-  k = direct n
-
+module _ (k : Cache) (ts : List Task) (ok : Rules ts) (i j : ℕ) (hi : i < length ts) (hj : j < length ts) (ne : j ≢ i) where
   -- the run of i with one preemption by j at a point of its path
   abbrev once : (path : List ℕ) (point : ℕ) (q : List ℕ) → Complete (task ts i) path → point < length path → Complete (task ts j) q → DisturbedRun ts
   once path point q c l d = record {
@@ -39,7 +36,7 @@ module _ (n : ℕ) (ts : List Task) (ok : Rules ts) (i j : ℕ) (hi : i < length
   }
 
   reached-by : (path : List ℕ) (point : ℕ) (q : List ℕ) (c : Complete (task ts i) path) (l : point < length path) (d : Complete (task ts j) q)
-      → D k (once path point q c l d) ≡ U k (once path point q c l d) + pairNumber n (task ts i) (task ts j) → Reached n ts i j
+      → D k (once path point q c l d) ≡ U k (once path point q c l d) + pairNumber k (task ts i) (task ts j) → Reached k ts i j
   reached-by path point q c l d e = record {
     run = once path point q c l d;
     one = record { point = point; by = j; path = q };
@@ -58,12 +55,12 @@ module _ (n : ℕ) (ts : List Task) (ok : Rules ts) (i j : ℕ) (hi : i < length
   long t [] c = absurd c
   long t (b ∷ p) c = omega arith
 
-  reached-zero : pairNumber n (task ts i) (task ts j) ≡ 0 → Reached n ts i j
+  reached-zero : pairNumber k (task ts i) (task ts j) ≡ 0 → Reached k ts i j
   reached-zero z =
       let (p, c) = some-path i hi in
       let (q, d) = some-path j hj in
       let r = once p 0 q c (long (task ts i) p c) d in
-      reached-by p 0 q c (long (task ts i) p c) d (omega (arith, bounded n ts ok r))
+      reached-by p 0 q c (long (task ts i) p c) d (omega (arith, bounded k ts ok r))
 
   -- ---- some rows of paths meet the number
 
@@ -84,7 +81,7 @@ module _ (n : ℕ) (ts : List Task) (ok : Rules ts) (i j : ℕ) (hi : i < length
       (count-events k ts t (0 ∷ (pre ++ post)) (x ∷ []) ∙ ap (disturbed k (emptyRow k)) form
       ∙ exact-at k (mine ts ok i) (references t (0 ∷ pre)) (references (task ts j) q) (references t post) (emptyRow k) (length-emptyRow k) a)
 
-  reached-rows : (x : Rows k (task ts i) (task ts j)) → counted (usefulUsed k) x ≡ pairNumber n (task ts i) (task ts j) → Reached n ts i j
+  reached-rows : (x : Rows k (task ts i) (task ts j)) → counted (usefulUsed k) x ≡ pairNumber k (task ts i) (task ts j) → Reached k ts i j
   reached-rows x e =
       let (pre, to, er) = x .reaches in
       let (post, on, el) = x .lives in
@@ -95,18 +92,18 @@ module _ (n : ℕ) (ts : List Task) (ok : Rules ts) (i j : ℕ) (hi : i < length
       (meets pre post (0 ∷ q) (x .reaching) (x .live) (x .ending) er el ef e))
     where
       meets : (pre post q r l f : List ℕ) → r ≡ withReferences k (emptyRow k) (references (task ts i) (0 ∷ pre)) → l ≡ firstReferences k (references (task ts i) post)
-          → f ≡ withReferences k (emptyRow k) (references (task ts j) q) → usefulUsed k r l f ≡ pairNumber n (task ts i) (task ts j)
+          → f ≡ withReferences k (emptyRow k) (references (task ts j) q) → usefulUsed k r l f ≡ pairNumber k (task ts i) (task ts j)
           → usefulUsed k (withReferences k (emptyRow k) (references (task ts i) (0 ∷ pre))) (firstReferences k (references (task ts i) post)) (withReferences k (emptyRow k) (references (task ts j) q))
-          ≡ pairNumber n (task ts i) (task ts j)
+          ≡ pairNumber k (task ts i) (task ts j)
       meets pre post q r l f er el ef e = rw (← er, ← el, ← ef) e
 
-  pub reached : Reached n ts i j
-  reached = go (most-is (usefulUsed k) k (task ts i) (task ts j) .met)
+  pub reached : Reached k ts i j
+  reached = go (most-is (usefulUsed k) k (task ts i) (task ts j) .attained)
     where
-      go : (pairNumber n (task ts i) (task ts j) ≡ 0) ⊎ ((x : Rows k (task ts i) (task ts j)) × (counted (usefulUsed k) x ≡ pairNumber n (task ts i) (task ts j))) → Reached n ts i j
+      go : (pairNumber k (task ts i) (task ts j) ≡ 0) ⊎ ((x : Rows k (task ts i) (task ts j)) × (counted (usefulUsed k) x ≡ pairNumber k (task ts i) (task ts j))) → Reached k ts i j
       go (inl z) = reached-zero z
       go (inr (x, e)) = reached-rows x e
 
 -- demand 3, whole
-pub demand-3 : (n : ℕ) (ts : List Task) → Rules ts → Demand3 n ts
-demand-3 n ts ok = (bounded n ts ok, λ i j hi hj ne. reached n ts ok i j hi hj ne)
+pub demand-3 : (k : Cache) (ts : List Task) → Rules ts → Demand3 k ts
+demand-3 k ts ok = (bounded k ts ok, λ i j hi hj ne. reached k ts ok i j hi hj ne)

@@ -24,13 +24,13 @@ pub figure1-live : map (λ (b : ℕ). length (living (direct 4) figure1 b)) bloc
 unfolding nothing
 figure1-live = refl
 
-pub figure1-numbers : (pairNumber 4 figure1 oneBlock ≡ 3) × (pairNumber 4 figure1 aFork ≡ 2)
+pub figure1-numbers : (pairNumber (direct 4) figure1 oneBlock ≡ 3) × (pairNumber (direct 4) figure1 aFork ≡ 2)
 unfolding nothing
 figure1-numbers = (refl, refl)
 
 -- ---- file E, n = 2
 
-pub numbersE : (pairNumber 2 (task tasksE 0) (task tasksE 1) ≡ 1) × (pairNumber 2 (task tasksE 1) (task tasksE 0) ≡ 0)
+pub numbersE : (pairNumber (direct 2) (task tasksE 0) (task tasksE 1) ≡ 1) × (pairNumber (direct 2) (task tasksE 1) (task tasksE 0) ≡ 0)
 unfolding nothing
 numbersE = (refl, refl)
 

@@ -12,6 +12,7 @@ pub mod Bounds
 pub mod Demand
 pub mod Sorted
 pub mod Width
+pub mod Narrower
 pub mod StatesWidth
 pub mod Examples
 pub mod Neighbours

@@ -1,8 +1,8 @@
 -- Laws of `mem`: in joined and mapped lists, in lists made of each with each; the tests of lists and states are equality.
 -- Each is an induction on the list, over any type whose test is equality.
-use mathlib.Core.Path.{_≡_, refl, sym, _∙_}
+use mathlib.Core.Path.{_≡_, refl, sym, ap, _∙_}
 use mathlib.Core.Logic.{_⊎_, inl, inr}
-use mathlib.Core.Bool.{Bool, _||_, true, false, _&&_, cond, true≢false, false≢true}
+use mathlib.Core.Bool.{Bool, _||_, true, false, _&&_, cond, or-false, or-assoc, true≢false, false≢true}
 use mathlib.Core.List.{List, [], _∷_, _++_, map}
 use Prim.Native.Nat.{ℕ, zero, suc, _*_, _<_}
 use native.Mathlib.Omega.{arith}
@@ -66,6 +66,10 @@ sameState-true x y e = λ i. (p i, q i)
 
     q : x .1 ≡ y .1
     q = sameList-true (x .1) (y .1) (both-right (eqb (x .0) (y .0)) (sameList (x .1) (y .1)) e)
+
+pub mem-more : (x m : ℕ) (ms : List ℕ) → mem eqb x (ms ++ (m ∷ [])) ≡ (mem eqb x ms || eqb x m)
+mem-more x m [] = or-false (eqb x m)
+mem-more x m (y ∷ ms) = ap (λ (b : Bool). eqb x y || b) (mem-more x m ms) ∙ sym (or-assoc (eqb x y) (mem eqb x ms) (eqb x m))
 
 module _ {A : Type 0} (eq : A → A → Bool) (eq-self : (x : A) → eq x x ≡ true) (eq-true : (x y : A) → eq x y ≡ true → x ≡ y) where
   pub mem-append-left : (x : A) (l r : List A) → mem eq x l ≡ true → mem eq x (l ++ r) ≡ true

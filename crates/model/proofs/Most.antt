@@ -29,9 +29,9 @@ module _ {A : Type 0} (eq : A → A → Bool) (eq-self : (x : A) → eq x x ≡ 
       go (inl q) ih = rw (eq-true x y q) (omega arith)
       go (inr q) ih = omega (arith, ih q)
 
-  pub best-met : (l : List A) → (best f l ≡ 0) ⊎ ((x : A) × (mem eq x l ≡ true) × (f x ≡ best f l))
-  best-met [] = inl refl
-  best-met (y ∷ l) = go (ltb (best f l) (f y)) refl (best-met l)
+  pub best-attained : (l : List A) → (best f l ≡ 0) ⊎ ((x : A) × (mem eq x l ≡ true) × (f x ≡ best f l))
+  best-attained [] = inl refl
+  best-attained (y ∷ l) = go (ltb (best f l) (f y)) refl (best-attained l)
     where
       go : (b : Bool) → ltb (best f l) (f y) ≡ b → (best f l ≡ 0) ⊎ ((x : A) × (mem eq x l ≡ true) × (f x ≡ best f l))
           → (max (f y) (best f l) ≡ 0) ⊎ ((x : A) × (mem eq x (y ∷ l) ≡ true) × (f x ≡ max (f y) (best f l)))
@@ -89,10 +89,10 @@ module _ (v : Count) (k : Cache) (i j : Task) where
   abbrev Met : Type 0
   Met = (most v k i j ≡ 0) ⊎ ((x : Rows k i j) × (counted v x ≡ most v k i j))
 
-  met-ends : (b : ℕ) (r l : List ℕ) → Reaches k i b r → Lives k i b l → overEnds r l ≡ most v k i j
+  attained-ends : (b : ℕ) (r l : List ℕ) → Reaches k i b r → Lives k i b l → overEnds r l ≡ most v k i j
       → (overEnds r l ≡ 0) ⊎ ((f : List ℕ) × (mem sameList f endRows ≡ true) × (v r l f ≡ overEnds r l)) → Met
-  met-ends b r l hr hl e (inl z) = inl (sym e ∙ z)
-  met-ends b r l hr hl e (inr (f, p, q)) =
+  attained-ends b r l hr hl e (inl z) = inl (sym e ∙ z)
+  attained-ends b r l hr hl e (inr (f, p, q)) =
       inr (
         record {
           at = b;
@@ -106,22 +106,22 @@ module _ (v : Count) (k : Cache) (i j : Task) where
         q ∙ e,
       )
 
-  met-live : (b : ℕ) (r : List ℕ) → Reaches k i b r → overLive (b, r) ≡ most v k i j
+  attained-live : (b : ℕ) (r : List ℕ) → Reaches k i b r → overLive (b, r) ≡ most v k i j
       → (overLive (b, r) ≡ 0) ⊎ ((l : List ℕ) × (mem sameList l (rowsAt b (liveStates k i)) ≡ true) × (overEnds r l ≡ overLive (b, r))) → Met
-  met-live b r hr e (inl z) = inl (sym e ∙ z)
-  met-live b r hr e (inr (l, p, q)) =
-      met-ends b r l hr (live-exact k i b l .0 (rowsAt-only b l (liveStates k i) p)) (q ∙ e) (best-met sameList sameList-self sameList-true (λ (f : List ℕ). v r l f) endRows)
+  attained-live b r hr e (inl z) = inl (sym e ∙ z)
+  attained-live b r hr e (inr (l, p, q)) =
+      attained-ends b r l hr (live-exact k i b l .0 (rowsAt-only b l (liveStates k i) p)) (q ∙ e) (best-attained sameList sameList-self sameList-true (λ (f : List ℕ). v r l f) endRows)
 
-  met-reaching : (most v k i j ≡ 0) ⊎ ((x : State) × (mem sameState x (reachingStates k i) ≡ true) × (overLive x ≡ most v k i j)) → Met
-  met-reaching (inl z) = inl z
-  met-reaching (inr (x, p, q)) =
-      met-live (x .0) (x .1) (reaching-exact k i (x .0) (x .1) .0 p) q (best-met sameList sameList-self sameList-true (overEnds (x .1)) (rowsAt (x .0) (liveStates k i)))
+  attained-reaching : (most v k i j ≡ 0) ⊎ ((x : State) × (mem sameState x (reachingStates k i) ≡ true) × (overLive x ≡ most v k i j)) → Met
+  attained-reaching (inl z) = inl z
+  attained-reaching (inr (x, p, q)) =
+      attained-live (x .0) (x .1) (reaching-exact k i (x .0) (x .1) .0 p) q (best-attained sameList sameList-self sameList-true (overEnds (x .1)) (rowsAt (x .0) (liveStates k i)))
 
   pub most-is : Most v k i j (most v k i j)
-  most-is = record { bound = most-bound; met = met-reaching (best-met sameState sameState-self sameState-true overLive (reachingStates k i)) }
+  most-is = record { bound = most-bound; attained = attained-reaching (best-attained sameState sameState-self sameState-true overLive (reachingStates k i)) }
 
   most-le : (x y : ℕ) → Most v k i j x → Most v k i j y → x ≤ y
-  most-le x y p q = go (p .met)
+  most-le x y p q = go (p .attained)
     where
       go : (x ≡ 0) ⊎ ((rows : Rows k i j) × (counted v rows ≡ x)) → x ≤ y
       go (inl z) = omega arith

@@ -107,11 +107,11 @@ twiceE = record {
   rising = (omega arith, tt);
 }
 
-twice-counts : (U (direct 2) twiceE ≡ 2) × (D (direct 2) twiceE ≡ 4) × (pairSum 2 tasksE 0 (drop 1 (twiceE .preemptions)) ≡ 1)
+twice-counts : (U (direct 2) twiceE ≡ 2) × (D (direct 2) twiceE ≡ 4) × (pairSum (direct 2) tasksE 0 (drop 1 (twiceE .preemptions)) ≡ 1)
 unfolding nothing
 twice-counts = (refl, refl, refl)
 
-pub not-one-left-out : ((r : DisturbedRun tasksE) → D (direct 2) r ≤ U (direct 2) r + pairSum 2 tasksE (r .p) (drop 1 (r .preemptions))) → ⊥
+pub not-one-left-out : ((r : DisturbedRun tasksE) → D (direct 2) r ≤ U (direct 2) r + pairSum (direct 2) tasksE (r .p) (drop 1 (r .preemptions))) → ⊥
 not-one-left-out h = omega (arith, h twiceE, twice-counts)
 
 -- ---- live rows without the end block's stopping row
@@ -148,16 +148,16 @@ not-without-stop h = omega (arith, h, once-counts, without-stop)
 abbrev pub usedOrNothing : Cache → Count
 usedOrNothing k r l f = count (k .width) (λ c. eqb (held r c) (held l c) && used f c)
 
-two-nothings : (most (usedOrNothing (direct 2)) (direct 2) (task tasksE 1) (task tasksE 0) ≡ 1) × (pairNumber 2 (task tasksE 1) (task tasksE 0) ≡ 0)
+two-nothings : (most (usedOrNothing (direct 2)) (direct 2) (task tasksE 1) (task tasksE 0) ≡ 1) × (pairNumber (direct 2) (task tasksE 1) (task tasksE 0) ≡ 0)
 unfolding nothing
 two-nothings = (refl, refl)
 
 -- then no run of task 1 with exactly one preemption, by task 0, reaches the number
 pub not-two-nothings : (r : DisturbedRun tasksE) (one : Preemption) → r .p ≡ 1 → r .preemptions ≡ one ∷ [] → one .by ≡ 0
     → D (direct 2) r ≡ U (direct 2) r + most (usedOrNothing (direct 2)) (direct 2) (task tasksE 1) (task tasksE 0) → ⊥
-not-two-nothings r one p q b e = omega (arith, e, two-nothings, bounded 2 tasksE rulesE r .1, sum-none (r .p) (r .preemptions) one p q b)
+not-two-nothings r one p q b e = omega (arith, e, two-nothings, bounded (direct 2) tasksE rulesE r .1, sum-none (r .p) (r .preemptions) one p q b)
   where
-    sum-none : (i : ℕ) (xs : List Preemption) (one : Preemption) → i ≡ 1 → xs ≡ one ∷ [] → one .by ≡ 0 → pairSum 2 tasksE i xs ≡ 0
+    sum-none : (i : ℕ) (xs : List Preemption) (one : Preemption) → i ≡ 1 → xs ≡ one ∷ [] → one .by ≡ 0 → pairSum (direct 2) tasksE i xs ≡ 0
     sum-none i xs one p q b = rw (p, q, b) (omega (arith, two-nothings .1))
 
 -- ---- a block started from its own references alone

@@ -13,7 +13,7 @@ use Rattle.cache.specs.References.{All}
 use Rattle.cache.specs.Cache.{Cache, emptyRow, hits, withReference, withReferences, misses}
 use Rattle.model.specs.Lists.{Each}
 use Rattle.model.specs.Tasks.{Block, Task, block, references, task}
-use Rattle.model.specs.Runs.{Preemption, NeverFall, Kept, atFirst, ownReferences, preempted, preemptedBy, withPoint, positions, countAtEnd}
+use Rattle.model.specs.Runs.{Preemption, NeverFall, RowCount, atFirst, ownReferences, preempted, preemptedBy, withPoint, positions, countAtEnd}
 use Rattle.model.proofs.Events.{Event, Ref, Preempt, own, refs, disturbed, Parts}
 use Rattle.model.proofs.Lost.{own-refs}
 
@@ -32,18 +32,18 @@ runEvents ts t xs i (b ∷ p) = refs (block t b .references) (preempts ts (withP
 -- ---- the count of a run is the count over its events
 
 module _ (k : Cache) (ts : List Task) where
-  own-count : (ms : List ℕ) (s : Kept) (es : List Event)
+  own-count : (ms : List ℕ) (s : RowCount) (es : List Event)
       → ownReferences k s ms .count + disturbed k (ownReferences k s ms .row) es ≡ s .count + disturbed k (s .row) (refs ms es)
   own-count [] s es = refl
   own-count (m ∷ ms) s es =
       omega (arith, own-count ms (record { row = withReference k (s .row) m; count = s .count + bit (not (hits k (s .row) m)) }) es)
 
-  preempted-count : (xs : List Preemption) (s : Kept) (es : List Event)
+  preempted-count : (xs : List Preemption) (s : RowCount) (es : List Event)
       → preemptedBy k ts s xs .count + disturbed k (preemptedBy k ts s xs .row) es ≡ s .count + disturbed k (s .row) (preempts ts xs es)
   preempted-count [] s es = refl
   preempted-count (x ∷ xs) s es = preempted-count xs (preempted k ts s x) es
 
-  positions-count : (t : Task) (xs : List Preemption) (p : List ℕ) (i : ℕ) (s : Kept)
+  positions-count : (t : Task) (xs : List Preemption) (p : List ℕ) (i : ℕ) (s : RowCount)
       → positions k ts t xs i s p .count ≡ s .count + disturbed k (s .row) (runEvents ts t xs i p)
   positions-count t xs [] i s = omega arith
   positions-count t xs (b ∷ p) i s =

@@ -8,7 +8,7 @@ use Prim.Native.Nat.{ℕ, _+_, _-_, _≤_, _<_}
 use native.Mathlib.Omega.{arith}
 use lib.ListN.{length, replicate, length-map}
 use Rattle.cache.specs.References.{nothing}
-use Rattle.cache.specs.Cache.{wide, direct, emptyRow}
+use Rattle.cache.specs.Cache.{Cache, wide, direct, emptyRow}
 use Rattle.cache.proofs.Rows.{length-emptyRow, length-withReferences, length-firstsOver, firstReferences-fold}
 use Rattle.model.specs.Lists.{mem, Each}
 use Rattle.model.specs.Tasks.{Task, references}
@@ -33,6 +33,14 @@ rising-after n z [] h g = tt
 rising-after n z (x ∷ []) h g = (tt, tt)
 rising-after n z (x ∷ y ∷ l) h g = (before-after x y z (h .0 ∙ sym (h .1 .0)) ∙ g .0, rising-after n z (y ∷ l) (h .1) (g .1))
 
+-- a state has a place for each of the cache's
+module _ (k : Cache) (t : Task) (b : ℕ) (r : List ℕ) where
+  pub reaches-long : Reaches k t b r → length r ≡ k .width
+  reaches-long (p, w, e) = ap length e ∙ length-withReferences k (references t (0 ∷ p)) (emptyRow k) (length-emptyRow k)
+
+  pub lives-long : Lives k t b r → length r ≡ k .width
+  lives-long (p, w, e) = ap length (e ∙ firstReferences-fold k (references t p)) ∙ length-firstsOver k (references t p) (emptyRow k) (length-emptyRow k)
+
 module _ (n : ℕ) (pos : 0 < n) (d : ℕ) (t : Task) (b : ℕ) where
   same : (all : List (List ℕ)) (P Q : List ℕ → Type 0) → Rising all → ((r : List ℕ) → (mem sameList r all ≡ true) ↔ P r) → ((r : List ℕ) → P r → length r ≡ n)
       → ((r : List ℕ) → P r → Q (padded n pos d r)) → ((r : List ℕ) → Q r → Behind n pos d P r)
@@ -54,20 +62,14 @@ module _ (n : ℕ) (pos : 0 < n) (d : ℕ) (t : Task) (b : ℕ) where
           let (x, m, q) = mem-of-map sameList sameList-self sameList-true sameList sameList-self sameList-true (λ (r : List ℕ). r ++ replicate d nothing) r all e in
           rw q (wis (x ++ replicate d nothing) .1 (to x (is x .0 m)))
 
-  reach-long : (r : List ℕ) → Reaches (direct n) t b r → length r ≡ n
-  reach-long r (p, w, e) = ap length e ∙ length-withReferences (direct n) (references t (0 ∷ p)) (emptyRow (direct n)) (length-emptyRow (direct n))
-
-  live-long : (r : List ℕ) → Lives (direct n) t b r → length r ≡ n
-  live-long r (p, w, e) = ap length (e ∙ firstReferences-fold (direct n) (references t p)) ∙ length-firstsOver (direct n) (references t p) (emptyRow (direct n)) (length-emptyRow (direct n))
-
   pub reaching-wider : reaching (wide (n + d) n) t b ≡ map (λ (r : List ℕ). r ++ replicate d nothing) (reaching (direct n) t b)
   reaching-wider =
-      same (reaching (direct n) t b) (Reaches (direct n) t b) (Reaches (wide (n + d) n) t b) (reaching-rising (direct n) t b) (reaching-rows (direct n) t b) reach-long
+      same (reaching (direct n) t b) (Reaches (direct n) t b) (Reaches (wide (n + d) n) t b) (reaching-rising (direct n) t b) (reaching-rows (direct n) t b) (reaches-long (direct n) t b)
       (reaches-broad n pos d t b) (reaches-narrow n pos d t b) (reaching (wide (n + d) n) t b) (reaching-rising (wide (n + d) n) t b) (reaching-rows (wide (n + d) n) t b)
 
   pub living-wider : living (wide (n + d) n) t b ≡ map (λ (r : List ℕ). r ++ replicate d nothing) (living (direct n) t b)
   living-wider =
-      same (living (direct n) t b) (Lives (direct n) t b) (Lives (wide (n + d) n) t b) (living-rising (direct n) t b) (living-rows (direct n) t b) live-long
+      same (living (direct n) t b) (Lives (direct n) t b) (Lives (wide (n + d) n) t b) (living-rising (direct n) t b) (living-rows (direct n) t b) (lives-long (direct n) t b)
       (lives-broad n pos d t b) (lives-narrow n pos d t b) (living (wide (n + d) n) t b) (living-rising (wide (n + d) n) t b) (living-rows (wide (n + d) n) t b)
 
 -- how many states a block has does not depend on the width

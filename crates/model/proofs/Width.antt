@@ -53,10 +53,10 @@ module _ (n : ℕ) (pos : 0 < n) (d : ℕ) where
       ap (λ r. withReference broad r m) (padded-firsts ms)
       ∙ padded-reference (firstsOver narrow ms (emptyRow narrow)) m (length-firstsOver narrow ms (emptyRow narrow) (length-emptyRow narrow))
 
-  run-row : (ms : List ℕ) → withReferences broad (emptyRow broad) ms ≡ padded (withReferences narrow (emptyRow narrow) ms)
+  pub run-row : (ms : List ℕ) → withReferences broad (emptyRow broad) ms ≡ padded (withReferences narrow (emptyRow narrow) ms)
   run-row ms = ap (λ r. withReferences broad r ms) padded-empty ∙ padded-references ms (emptyRow narrow) (length-emptyRow narrow)
 
-  first-row : (ms : List ℕ) → firstReferences broad ms ≡ padded (firstReferences narrow ms)
+  pub first-row : (ms : List ℕ) → firstReferences broad ms ≡ padded (firstReferences narrow ms)
   first-row ms = firstReferences-fold broad ms ∙ padded-firsts ms ∙ ap padded (sym (firstReferences-fold narrow ms))
 
   -- ---- states
@@ -144,22 +144,22 @@ module _ (n : ℕ) (pos : 0 < n) (d : ℕ) where
     padded-count (x .reaching) (x .live) (x .ending) (row-long i (x .at) (x .reaching) (x .reaches)) (live-long i (x .at) (x .live) (x .lives)) (row-long j (end j) (x .ending) (x .ends)),
   )
 
-  broad-most : (i j : Task) → Most (usefulUsed broad) broad i j (pairNumber n i j)
+  broad-most : (i j : Task) → Most (usefulUsed broad) broad i j (pairNumber (direct n) i j)
   broad-most i j = record {
     bound = λ x. let (y, e) = to-narrow i j x in omega (arith, most-is (usefulUsed narrow) narrow i j .bound y);
-    met = go (most-is (usefulUsed narrow) narrow i j .met);
+    attained = go (most-is (usefulUsed narrow) narrow i j .attained);
   }
     where
-      go : (pairNumber n i j ≡ 0) ⊎ ((x : Rows narrow i j) × (counted (usefulUsed narrow) x ≡ pairNumber n i j))
-          → (pairNumber n i j ≡ 0) ⊎ ((y : Rows broad i j) × (counted (usefulUsed broad) y ≡ pairNumber n i j))
+      go : (pairNumber (direct n) i j ≡ 0) ⊎ ((x : Rows narrow i j) × (counted (usefulUsed narrow) x ≡ pairNumber (direct n) i j))
+          → (pairNumber (direct n) i j ≡ 0) ⊎ ((y : Rows broad i j) × (counted (usefulUsed broad) y ≡ pairNumber (direct n) i j))
       go (inl z) = inl z
       go (inr (x, e)) = let (y, q) = to-broad i j x in inr (y, q ∙ e)
 
-  broad-number : (i j : Task) → most (usefulUsed broad) broad i j ≡ pairNumber n i j
-  broad-number i j = most-unique (usefulUsed broad) broad i j (most (usefulUsed broad) broad i j) (pairNumber n i j) (most-is (usefulUsed broad) broad i j) (broad-most i j)
+  broad-number : (i j : Task) → most (usefulUsed broad) broad i j ≡ pairNumber (direct n) i j
+  broad-number i j = most-unique (usefulUsed broad) broad i j (most (usefulUsed broad) broad i j) (pairNumber (direct n) i j) (most-is (usefulUsed broad) broad i j) (broad-most i j)
 
 -- the pair number by rows of any width: it depends on n and the two tasks alone
-pub pair-width : (n w : ℕ) → 0 < n → n ≤ w → (i j : Task) → most (usefulUsed (wide w n)) (wide w n) i j ≡ pairNumber n i j
+pub pair-width : (n w : ℕ) → 0 < n → n ≤ w → (i j : Task) → most (usefulUsed (wide w n)) (wide w n) i j ≡ pairNumber (direct n) i j
 pair-width n w pos h i j =
     let e : w ≡ n + (w - n) = omega arith in
     rw e (broad-number n pos (w - n) i j)

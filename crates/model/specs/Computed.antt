@@ -5,7 +5,7 @@ use mathlib.Core.List.{List, [], _∷_, _++_, map}
 use Prim.Native.Nat.{ℕ, zero, suc, _*_, _^_}
 use lib.Dec.{eqb, ltb}
 use lib.ListN.{length}
-use Rattle.cache.specs.Cache.{Cache, emptyRow, withReferences, direct}
+use Rattle.cache.specs.Cache.{Cache, Row, emptyRow, withReferences}
 use Rattle.cache.specs.Firsts.{firstsOver}
 use Rattle.cache.specs.Sets.{usefulUsed}
 use Rattle.model.specs.Lists.{mem, best}
@@ -41,7 +41,7 @@ close eq next (suc k) l = elim (sub eq (nexts next l) l) [ true ↦ l | false �
 -- ---- states: a block and a row
 
 abbrev pub State : Type 0
-State = ℕ × List ℕ
+State = ℕ × Row
 
 abbrev pub sameList : List ℕ → List ℕ → Bool
 sameList [] [] = true
@@ -87,24 +87,24 @@ liveStates k t = close sameState (liveNext k t) (rounds k t) (liveStart k t)
 
 -- ---- the rows of one block, in dictionary order
 
-abbrev pub rowsAt : ℕ → List State → List (List ℕ)
+abbrev pub rowsAt : ℕ → List State → List Row
 rowsAt b [] = []
 rowsAt b (x ∷ xs) = cond (eqb (x .0) b) (x .1 ∷ rowsAt b xs) (rowsAt b xs)
 
 -- a row put in its place among rising rows, unless it is there already
-abbrev pub insertRow : List ℕ → List (List ℕ) → List (List ℕ)
+abbrev pub insertRow : Row → List Row → List Row
 insertRow r [] = r ∷ []
 insertRow r (x ∷ xs) = cond (before r x) (r ∷ x ∷ xs) (cond (before x r) (x ∷ insertRow r xs) (x ∷ xs))
 
-abbrev pub sorted : List (List ℕ) → List (List ℕ)
+abbrev pub sorted : List Row → List Row
 sorted [] = []
 sorted (x ∷ xs) = insertRow x (sorted xs)
 
 -- the reaching states and the live states of the block b
-abbrev pub reaching : Cache → Task → ℕ → List (List ℕ)
+abbrev pub reaching : Cache → Task → ℕ → List Row
 reaching k t b = sorted (rowsAt b (reachingStates k t))
 
-abbrev pub living : Cache → Task → ℕ → List (List ℕ)
+abbrev pub living : Cache → Task → ℕ → List Row
 living k t b = sorted (rowsAt b (liveStates k t))
 
 -- ---- the pair number
@@ -112,9 +112,9 @@ living k t b = sorted (rowsAt b (liveStates k t))
 -- the most that v counts over a reaching row and a live row of one block of i, and a row that j ends with
 abbrev pub most : Count → Cache → Task → Task → ℕ
 most v k i j =
-    best (λ (x : State). best (λ (l : List ℕ). best (λ (f : List ℕ). v (x .1) l f) (rowsAt (end j) (reachingStates k j))) (rowsAt (x .0) (liveStates k i)))
+    best (λ (x : State). best (λ (l : Row). best (λ (f : Row). v (x .1) l f) (rowsAt (end j) (reachingStates k j))) (rowsAt (x .0) (liveStates k i)))
     (reachingStates k i)
 
--- the pair number of task i preempted by task j, in a cache of n cache blocks
-abbrev pub pairNumber : ℕ → Task → Task → ℕ
-pairNumber n i j = most (usefulUsed (direct n)) (direct n) i j
+-- the pair number of task i preempted by task j, in a cache
+abbrev pub pairNumber : Cache → Task → Task → ℕ
+pairNumber k i j = most (usefulUsed k) k i j

@@ -1,23 +1,22 @@
 -- Document 01, "Paths and cache": the pair number, against paths. Definitions only.
 use mathlib.Core.Path.{_≡_}
 use mathlib.Core.Logic.{_⊎_}
-use mathlib.Core.List.{List}
 use Prim.Native.Nat.{ℕ, _≤_}
-use Rattle.cache.specs.Cache.{Cache}
+use Rattle.cache.specs.Cache.{Cache, Row}
 use Rattle.cache.specs.Sets.{usefulUsed}
 use Rattle.model.specs.Tasks.{Task, end}
 use Rattle.model.specs.States.{Reaches, Lives}
 
 -- a number for a reaching row and a live row of one block, and an end row of another task
 abbrev pub Count : Type 0
-Count = List ℕ → List ℕ → List ℕ → ℕ
+Count = Row → Row → Row → ℕ
 
 -- three rows that paths make: a reaching and a live one of a block of i, and one that j ends with
 pub record Rows (k : Cache) (i j : Task) : Type 0 where
   pub at : ℕ
-  pub reaching : List ℕ
-  pub live : List ℕ
-  pub ending : List ℕ
+  pub reaching : Row
+  pub live : Row
+  pub ending : Row
   pub reaches : Reaches k i at reaching
   pub lives : Lives k i at live
   pub ends : Reaches k j (end j) ending
@@ -29,7 +28,7 @@ counted v x = v (x .reaching) (x .live) (x .ending)
 -- x is the most that v counts over all rows that paths make, and 0 where there are none
 pub record Most (v : Count) (k : Cache) (i j : Task) (x : ℕ) : Type 0 where
   pub bound : (rows : Rows k i j) → counted v rows ≤ x
-  pub met : (x ≡ 0) ⊎ ((rows : Rows k i j) × (counted v rows ≡ x))
+  pub attained : (x ≡ 0) ⊎ ((rows : Rows k i j) × (counted v rows ≡ x))
 
 -- "Pair number of task i preempted by task j: the most cache blocks both useful in i and used by j, over all blocks, row pairs
 -- and used sets."

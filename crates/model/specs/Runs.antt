@@ -6,18 +6,18 @@ use Prim.Native.Nat.{ℕ, suc, _+_, _≤_, _<_}
 use lib.Dec.{eqb}
 use lib.ListN.{length}
 use Rattle.cache.specs.Sum.{bit}
-use Rattle.cache.specs.Cache.{Cache, emptyRow, hits, withReference, withReferences}
+use Rattle.cache.specs.Cache.{Cache, Row, emptyRow, hits, withReference, withReferences}
 use Rattle.model.specs.Lists.{Each}
-use Rattle.model.specs.Tasks.{Block, Task, block, Complete, references, task}
+use Rattle.model.specs.Tasks.{Block, Task, block, Path, Complete, references, task}
 
 -- "A preemption is a point (a position in the path, from 0), a task other than p and a complete path of that task."
 pub record Preemption : Type 0 where
   pub point : ℕ
   pub by : ℕ
-  pub path : List ℕ
+  pub path : Path
 
 -- a preemption of the path of the task p, in the file of the tasks ts
-pub record Preempts (ts : List Task) (p : ℕ) (path : List ℕ) (x : Preemption) : Type 0 where
+pub record Preempts (ts : List Task) (p : ℕ) (path : Path) (x : Preemption) : Type 0 where
   pub inPath : x .point < length path
   pub there : x .by < length ts
   pub other : x .by ≢ p
@@ -33,7 +33,7 @@ NeverFall (x ∷ y ∷ xs) = (x .point ≤ y .point) × NeverFall (y ∷ xs)
 -- .. Points lie in the path and never fall"
 pub record DisturbedRun (ts : List Task) : Type 0 where
   pub p : ℕ
-  pub path : List ℕ
+  pub path : Path
   pub preemptions : List Preemption
   pub there : p < length ts
   pub complete : Complete (task ts p) path
@@ -41,25 +41,25 @@ pub record DisturbedRun (ts : List Task) : Type 0 where
   pub rising : NeverFall preemptions
 
 -- "The run keeps one row and one count,"
-pub record Kept : Type 0 where
-  pub row : List ℕ
+pub record RowCount : Type 0 where
+  pub row : Row
   pub count : ℕ
 
 -- "at first the empty cache and 0."
-abbrev pub atFirst : Cache → Kept
+abbrev pub atFirst : Cache → RowCount
 atFirst k = record { row = emptyRow k; count = 0 }
 
 -- "it makes the references of that block in order and adds 1 for each miss,"
-abbrev pub ownReferences : Cache → Kept → List ℕ → Kept
+abbrev pub ownReferences : Cache → RowCount → List ℕ → RowCount
 ownReferences k s [] = s
 ownReferences k s (m ∷ ms) = ownReferences k (record { row = withReference k (s .row) m; count = s .count + bit (not (hits k (s .row) m)) }) ms
 
 -- "A preemption makes all references of its path in order on the row as it stands and adds nothing."
-abbrev pub preempted : Cache → List Task → Kept → Preemption → Kept
+abbrev pub preempted : Cache → List Task → RowCount → Preemption → RowCount
 preempted k ts s x = record { row = withReferences k (s .row) (references (task ts (x .by)) (x .path)); count = s .count }
 
 -- "Each step gets the row that the last one left"
-abbrev pub preemptedBy : Cache → List Task → Kept → List Preemption → Kept
+abbrev pub preemptedBy : Cache → List Task → RowCount → List Preemption → RowCount
 preemptedBy k ts s [] = s
 preemptedBy k ts s (x ∷ xs) = preemptedBy k ts (preempted k ts s x) xs
 
@@ -70,12 +70,12 @@ withPoint i (x ∷ xs) = cond (eqb (x .point) i) (x ∷ withPoint i xs) (withPoi
 
 -- "It takes the positions in rising order. At each it makes the references of that block .., then takes the preemptions with this
 -- point": the path's blocks from the position i on
-abbrev pub positions : Cache → List Task → Task → List Preemption → ℕ → Kept → List ℕ → Kept
+abbrev pub positions : Cache → List Task → Task → List Preemption → ℕ → RowCount → Path → RowCount
 positions k ts t xs i s [] = s
 positions k ts t xs i s (b ∷ p) = positions k ts t xs (suc i) (preemptedBy k ts (ownReferences k s (block t b .references)) (withPoint i xs)) p
 
 -- the count at the end of the path of a task, with a list of preemptions
-abbrev pub countAtEnd : Cache → List Task → Task → List ℕ → List Preemption → ℕ
+abbrev pub countAtEnd : Cache → List Task → Task → Path → List Preemption → ℕ
 countAtEnd k ts t path xs = positions k ts t xs 0 (atFirst k) path .count
 
 -- "D is the count at the end;"

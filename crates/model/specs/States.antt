@@ -4,27 +4,27 @@ use mathlib.Core.Logic.{_≢_, _⊎_}
 use mathlib.Core.List.{List, [], _∷_}
 use Prim.Native.Nat.{ℕ, _<_}
 use lib.ListN.{length}
-use Rattle.cache.specs.Cache.{Cache, emptyRow, withReferences, firstReferences}
+use Rattle.cache.specs.Cache.{Cache, Row, emptyRow, withReferences, firstReferences}
 use Rattle.model.specs.Lists.{Each}
-use Rattle.model.specs.Tasks.{Task, PathFrom, end, references}
+use Rattle.model.specs.Tasks.{Task, Path, PathFrom, end, references}
 
 -- "Reaching states of a block: rows after all its references, over every path from block 0 to it."
-abbrev pub Reaches : Cache → Task → ℕ → List ℕ → Type 0
-Reaches k t b row = (p : List ℕ) × PathFrom t 0 p b × (row ≡ withReferences k (emptyRow k) (references t (0 ∷ p)))
+abbrev pub Reaches : Cache → Task → ℕ → Row → Type 0
+Reaches k t b row = (p : Path) × PathFrom t 0 p b × (row ≡ withReferences k (emptyRow k) (references t (0 ∷ p)))
 
 -- "Live states of a block: for each cache block, the first reference to it after the block's end, over every way on to the end of
 -- a complete path. At the end block stopping is one way on and gives the row of nothings.": there the way on p may be empty
-abbrev pub Lives : Cache → Task → ℕ → List ℕ → Type 0
-Lives k t b row = (p : List ℕ) × PathFrom t b p (end t) × (row ≡ firstReferences k (references t p))
+abbrev pub Lives : Cache → Task → ℕ → Row → Type 0
+Lives k t b row = (p : Path) × PathFrom t b p (end t) × (row ≡ firstReferences k (references t p))
 
 -- no two rows of the list are equal
-abbrev pub Different : List (List ℕ) → Type 0
+abbrev pub Different : List Row → Type 0
 Different [] = Unit {0}
-Different (row ∷ rows) = Each (λ (other : List ℕ). row ≢ other) rows × Different rows
+Different (row ∷ rows) = Each (λ (other : Row). row ≢ other) rows × Different rows
 
 -- there are 33 different rows that are states
-pub record ThirtyThree (State : List ℕ → Type 0) : Type 0 where
-  pub rows : List (List ℕ)
+pub record ThirtyThree (State : Row → Type 0) : Type 0 where
+  pub rows : List Row
   pub many : length rows ≡ 33
   pub different : Different rows
   pub states : Each State rows

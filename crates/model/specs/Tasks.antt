@@ -29,22 +29,26 @@ block t b = getD t b noBlock
 abbrev pub end : Task → ℕ
 end t = length t - 1
 
+-- the blocks of a path, in order
+abbrev pub Path : Type 0
+Path = List ℕ
+
 -- "A path steps from a block to one of its successors.": from the block b over the blocks p, in order, to the block e
-pub data PathFrom (t : Task) : ℕ → List ℕ → ℕ → Type 0 where
+pub data PathFrom (t : Task) : ℕ → Path → ℕ → Type 0 where
   stay : {b : ℕ} → b < length t → PathFrom t b [] b
-  step : {b c e : ℕ} {p : List ℕ} → mem eqb c (block t b .successors) ≡ true → PathFrom t c p e → PathFrom t b (c ∷ p) e
+  step : {b c e : ℕ} {p : Path} → mem eqb c (block t b .successors) ≡ true → PathFrom t c p e → PathFrom t b (c ∷ p) e
 
 -- "A complete path begins in block 0 and ends in block B - 1; it may pass through the end block earlier."
-abbrev pub Complete : Task → List ℕ → Type 0
+abbrev pub Complete : Task → Path → Type 0
 Complete t [] = ⊥
 Complete t (b ∷ p) = (b ≡ 0) × PathFrom t b p (end t)
 
 -- "Every block must lie on a complete path."
 abbrev pub OnCompletePath : Task → ℕ → Type 0
-OnCompletePath t b = (p : List ℕ) × Complete t p × (mem eqb b p ≡ true)
+OnCompletePath t b = (p : Path) × Complete t p × (mem eqb b p ≡ true)
 
 -- the references of the blocks of a path, in order
-abbrev pub references : Task → List ℕ → List ℕ
+abbrev pub references : Task → Path → List ℕ
 references t [] = []
 references t (b ∷ p) = block t b .references ++ references t p
 

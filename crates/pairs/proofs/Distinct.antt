@@ -1,21 +1,13 @@
--- Numbers each once: `distinct []` has exactly the numbers of the list, and so the same largest value.
--- Each is an induction on the list: a number that is there already changes neither the numbers nor the largest value.
+-- Numbers each once: `distinct []` has exactly the numbers of the list. An induction on the list: a number that is there already changes nothing.
 use mathlib.Core.Path.{_≡_, refl, sym, ap, _∙_}
 use mathlib.Core.Bool.{Bool, true, false, _||_, cond, or-assoc}
 use mathlib.Core.List.{List, [], _∷_, _++_, append-nil, append-assoc}
-use Prim.Native.Nat.{ℕ, max}
-use native.Mathlib.Omega.{arith}
+use Prim.Native.Nat.{ℕ}
 use lib.Dec.{eqb}
 use borrow.Author.Tests.{eqb-true}
-use Rattle.model.specs.Lists.{mem, best}
-use Rattle.model.proofs.Membership.{eqb-self}
-use Rattle.model.proofs.Most.{best-le}
-use Rattle.seen.proofs.SeenLaws.{mem-more}
+use Rattle.model.specs.Lists.{mem}
+use Rattle.model.proofs.Membership.{mem-more}
 use Rattle.pairs.specs.Pairs.{distinct}
-
-pub best-append : (f : ℕ → ℕ) (a b : List ℕ) → best f (a ++ b) ≡ max (best f a) (best f b)
-best-append f [] b = omega arith
-best-append f (x ∷ a) b = omega (arith, best-append f a b)
 
 -- numbers after numbers: what comes second is new if it is neither old nor among what came first
 pub distinct-append : (old a b : List ℕ) → distinct old (a ++ b) ≡ distinct old a ++ distinct (old ++ distinct old a) b
@@ -51,23 +43,3 @@ distinct-after v old (x ∷ l) = go (mem eqb x old) refl (distinct-after v old l
 
 pub distinct-mem : (v : ℕ) (l : List ℕ) → mem eqb v (distinct [] l) ≡ mem eqb v l
 distinct-mem v l = distinct-after v [] l
-
--- ---- the largest value
-
-max-assoc : (a b c : ℕ) → max (max a b) c ≡ max a (max b c)
-max-assoc a b c = omega arith
-
-best-after : (f : ℕ → ℕ) (old l : List ℕ) → max (best f old) (best f (distinct old l)) ≡ max (best f old) (best f l)
-best-after f old [] = refl
-best-after f old (x ∷ l) = go (mem eqb x old) refl (best-after f old l) (best-after f (old ++ (x ∷ [])) l)
-  where
-    go : (t : Bool) → mem eqb x old ≡ t → max (best f old) (best f (distinct old l)) ≡ max (best f old) (best f l)
-        → max (best f (old ++ (x ∷ []))) (best f (distinct (old ++ (x ∷ [])) l)) ≡ max (best f (old ++ (x ∷ []))) (best f l)
-        → max (best f old) (best f (cond t (distinct old l) (x ∷ distinct (old ++ (x ∷ [])) l))) ≡ max (best f old) (max (f x) (best f l))
-    go true e p q = omega (arith, p, best-le eqb eqb-self (λ a b. eqb-true a b) f x old e)
-    go false e p q =
-        let more : best f (old ++ (x ∷ [])) ≡ max (best f old) (f x) = best-append f old (x ∷ []) ∙ ap (max (best f old)) (omega arith) in
-        sym (max-assoc (best f old) (f x) (best f (distinct (old ++ (x ∷ [])) l))) ∙ rw more at q ∙ max-assoc (best f old) (f x) (best f l)
-
-pub best-distinct : (f : ℕ → ℕ) (l : List ℕ) → best f (distinct [] l) ≡ best f l
-best-distinct f l = omega (arith, best-after f [] l)

@@ -1,6 +1,6 @@
 -- The most that the useful sets of a task have in common with the used sets of another is the pair number: `pair-number`.
 -- The idea: the sets are exactly those of the rows that paths make, and the pair number is the one number that bounds them and is met.
-use mathlib.Core.Path.{_≡_, sym, _∙_}
+use mathlib.Core.Path.{_≡_, sym, ap₂, _∙_}
 use mathlib.Core.Logic.{_⊎_, inl, inr}
 use mathlib.Core.Bool.{Bool, true, false≢true}
 use mathlib.Core.List.{List, [], _∷_, _++_, map}
@@ -12,19 +12,19 @@ use lib.ListN.{length}
 use lib.Bits.{bitAnd}
 use lib.Count.{ones}
 use borrow.Author.Tests.{eqb-true}
-use Rattle.cache.specs.Cache.{Cache, wide}
-use Rattle.cache.specs.Sets.{usefulUsed}
+use Rattle.cache.specs.Cache.{Cache}
+use Rattle.cache.specs.Sets.{useful, used, usefulUsed, bits}
 use Rattle.cache.proofs.Bits.{ones-useful-used}
 use Rattle.model.specs.Lists.{mem, best}
 use Rattle.model.specs.Tasks.{Task, end}
 use Rattle.model.specs.States.{Reaches, Lives}
 use Rattle.model.specs.Numbers.{Rows, counted, Most}
-use Rattle.model.specs.Computed.{sameList, sorted, reaching, living, most, pairNumber}
+use Rattle.model.specs.Computed.{sameList, sorted, reaching, living, pairNumber}
 use Rattle.model.proofs.Membership.{or-cases, or-left, or-right, eqb-self, sameList-self, sameList-true, mem-append-left, mem-append-right, mem-append-cases, mem-map, mem-of-map}
 use Rattle.model.proofs.Paths.{path-last}
 use Rattle.model.proofs.Sorted.{sorted-has, sorted-only, reaching-rows, living-rows}
-use Rattle.model.proofs.Most.{best-le, best-met, most-is, most-unique}
-use Rattle.model.proofs.Width.{pair-width}
+use Rattle.model.proofs.Most.{best-le, best-attained, most-is, most-unique}
+use Rattle.model.proofs.StatesWidth.{reaches-long}
 use Rattle.pairs.specs.Pairs.{usedSet, usefulSet, mostCommon, rowUseful, blockUseful, taskUseful}
 
 -- ---- the useful sets of a block are those of its rows
@@ -82,12 +82,14 @@ module _ (rs ls : ℕ → List (List ℕ)) where
 
 -- ---- the number
 
-module _ (n : ℕ) (pos : 0 < n) (small : n ≤ 16) (i j : Task) (rs ls : ℕ → List (List ℕ)) (vs : List ℕ)
-    (reached : (b : ℕ) → b < length i → sorted (rs b) ≡ reaching (wide 16 n) i b) (lived : (b : ℕ) → b < length i → sorted (ls b) ≡ living (wide 16 n) i b)
-    (sets : (v : ℕ) → mem eqb v vs ≡ mem eqb v (map usedSet (reaching (wide 16 n) j (end j)))) where
-  abbrev k : Cache
-  k = wide 16 n
+-- of rows as wide as the cache's
+counts-as : (k : Cache) (r l f : List ℕ) → length r ≡ k .width → length f ≡ k .width → ones (bitAnd (usefulSet r l) (usedSet f)) ≡ usefulUsed k r l f
+counts-as k r l f p q =
+    ap₂ (λ (x y : ℕ). ones (bitAnd (bits x (useful r l)) (bits y (used f)))) p q ∙ ones-useful-used k r l f
 
+module _ (k : Cache) (i j : Task) (rs ls : ℕ → List (List ℕ)) (vs : List ℕ)
+    (reached : (b : ℕ) → b < length i → sorted (rs b) ≡ reaching k i b) (lived : (b : ℕ) → b < length i → sorted (ls b) ≡ living k i b)
+    (sets : (v : ℕ) → mem eqb v vs ≡ mem eqb v (map usedSet (reaching k j (end j)))) where
   abbrev us : List ℕ
   us = taskUseful rs ls (length i) 0
 
@@ -104,11 +106,11 @@ module _ (n : ℕ) (pos : 0 < n) (small : n ≤ 16) (i j : Task) (rs ls : ℕ �
       let v = usedSet (x .ending) in
       let u-in = task-has rs ls (length i) 0 (x .at) u inside (rw (zero-add (x .at)) (block-has (rs (x .at)) (ls (x .at)) (x .reaching) (x .live) r-in l-in)) in
       let v-in = sets v ∙ mem-map sameList sameList-self sameList-true eqb eqb-self eqb-true usedSet (x .ending) (reaching k j (end j)) f-in in
-      rw (← ones-useful-used k (x .reaching) (x .live) (x .ending))
+      rw (← counts-as k (x .reaching) (x .live) (x .ending) (reaches-long k i (x .at) (x .reaching) (x .reaches)) (reaches-long k j (end j) (x .ending) (x .ends)))
       (le-trans (best-le eqb eqb-self eqb-true (λ (w : ℕ). ones (bitAnd u w)) v vs v-in) (best-le eqb eqb-self eqb-true (λ (w : ℕ). mostCommon w vs) u us u-in))
 
-  met : (number ≡ 0) ⊎ ((x : Rows k i j) × (counted (usefulUsed k) x ≡ number))
-  met = go (best-met eqb eqb-self eqb-true (λ (u : ℕ). mostCommon u vs) us)
+  attained : (number ≡ 0) ⊎ ((x : Rows k i j) × (counted (usefulUsed k) x ≡ number))
+  attained = go (best-attained eqb eqb-self eqb-true (λ (u : ℕ). mostCommon u vs) us)
     where
       over : (u : ℕ) → mem eqb u us ≡ true → mostCommon u vs ≡ number
           → (mostCommon u vs ≡ 0) ⊎ ((v : ℕ) × (mem eqb v vs ≡ true) × (ones (bitAnd u v) ≡ mostCommon u vs))
@@ -119,24 +121,24 @@ module _ (n : ℕ) (pos : 0 < n) (small : n ≤ 16) (i j : Task) (rs ls : ℕ �
           let inside : b < length i = omega (arith, h) in
           let o = block-only (rs b) (ls b) u w in
           let (f, f-in, fe) = mem-of-map sameList sameList-self sameList-true eqb eqb-self eqb-true usedSet v (reaching k j (end j)) (sym (sets v) ∙ q) in
+          let reaches = reaching-rows k i b (o .r) .0 (rw (← reached b inside) (sorted-has (rs b) (o .r) (o .reached))) in
+          let ends = reaching-rows k j (end j) f .0 f-in in
           inr (
             record {
               at = b;
               reaching = o .r;
               live = o .l;
               ending = f;
-              reaches = reaching-rows k i b (o .r) .0 (rw (← reached b inside) (sorted-has (rs b) (o .r) (o .reached)));
+              reaches = reaches;
               lives = living-rows k i b (o .l) .0 (rw (← lived b inside) (sorted-has (ls b) (o .l) (o .lived)));
-              ends = reaching-rows k j (end j) f .0 f-in;
+              ends = ends;
             },
-            sym (ones-useful-used k (o .r) (o .l) f) ∙ rw (← (o .is), ← fe) m ∙ e,
+            sym (counts-as k (o .r) (o .l) f (reaches-long k i b (o .r) reaches) (reaches-long k j (end j) f ends)) ∙ rw (← (o .is), ← fe) m ∙ e,
           )
 
       go : (number ≡ 0) ⊎ ((u : ℕ) × (mem eqb u us ≡ true) × (mostCommon u vs ≡ number)) → (number ≡ 0) ⊎ ((x : Rows k i j) × (counted (usefulUsed k) x ≡ number))
       go (inl z) = inl z
-      go (inr (u, p, e)) = over u p e (best-met eqb eqb-self eqb-true (λ (v : ℕ). ones (bitAnd u v)) vs)
+      go (inr (u, p, e)) = over u p e (best-attained eqb eqb-self eqb-true (λ (v : ℕ). ones (bitAnd u v)) vs)
 
-  pub pair-number : best (λ (u : ℕ). mostCommon u vs) (taskUseful rs ls (length i) 0) ≡ pairNumber n i j
-  pair-number =
-      most-unique (usefulUsed k) k i j number (most (usefulUsed k) k i j) (record { bound = bound; met = met }) (most-is (usefulUsed k) k i j)
-      ∙ pair-width n 16 pos small i j
+  pub pair-number : best (λ (u : ℕ). mostCommon u vs) (taskUseful rs ls (length i) 0) ≡ pairNumber k i j
+  pair-number = most-unique (usefulUsed k) k i j number (pairNumber k i j) (record { bound = bound; attained = attained }) (most-is (usefulUsed k) k i j)

@@ -9,14 +9,13 @@ use lib.Bits.{bitAnd}
 use lib.Count.{ones}
 use Rattle.cache.specs.Sets.{useful, used, bits}
 use Rattle.model.specs.Lists.{mem, best}
-use Rattle.seen.specs.Seen.{seenTable}
 
 -- the used set of a row, and the useful set of a reaching and a live row
 abbrev pub usedSet : List ℕ → ℕ
-usedSet row = bits 16 (used row)
+usedSet row = bits (length row) (used row)
 
 abbrev pub usefulSet : List ℕ → List ℕ → ℕ
-usefulSet reaching live = bits 16 (useful reaching live)
+usefulSet reaching live = bits (length reaching) (useful reaching live)
 
 -- the numbers of a list that are not in `old`, each once, in the order in which they first come
 abbrev pub distinct : List ℕ → List ℕ → List ℕ
@@ -57,8 +56,6 @@ pub record Met (us sets counts : List ℕ) (tasks : ℕ) (old new : List ℕ) : 
   pub each : (j : ℕ) → j < tasks → getD new j 0 ≡ max (getD old j 0) (best (λ (u : ℕ). mostCommon u (usedOf sets counts j)) us)
   pub rest : (j : ℕ) → tasks ≤ j → getD new j 0 ≡ getD old j 0
 
--- the sets us are met, each once: if the table has the sets ms, those of us that are not in ms are met, and the table has them too. Every table
--- is that of some list (`every-table` of crate seen), so table' and numbers' are told for every table
-abbrev pub MetOnce : List ℕ → List ℕ → List ℕ → ℕ → List ℕ → List ℕ → List ℕ → List ℕ → Type 0
-MetOnce us sets counts tasks table numbers table' numbers' =
-    (ms : List ℕ) → table ≡ seenTable ms → (table' ≡ seenTable (ms ++ distinct ms us)) × Met (distinct ms us) sets counts tasks numbers numbers'
+-- a room of sets that were met before: each number of it, taken as a set, would not raise the numbers of a task
+pub record Absorbed (met sets counts : List ℕ) (tasks : ℕ) (numbers : List ℕ) : Type 0 where
+  pub each : (at : ℕ) → at < 1024 → (j : ℕ) → j < tasks → mostCommon (getD met at 0) (usedOf sets counts j) ≤ getD numbers j 0

@@ -1,15 +1,14 @@
 // The numbers of a task: for each task the most cache blocks that are useful in the one and used by the other.
 ghost use mathlib.Core.Path.{_≡_};
 ghost use mathlib.Core.List.{[], _∷_};
-ghost use Prim.Native.Nat.{_<_, _≤_};
+ghost use Prim.Native.Nat.{_*_, _≤_, max};
+ghost use lib.Count.{ones};
 ghost use lib.ListN.{length};
-ghost use Rattle.rows.specs.Rows.{rowsOf};
+ghost use Rattle.rows.specs.Rows.{Width, rowsOf};
 ghost use Rattle.gather.specs.Memory.{Memory, heldRows};
-ghost use Rattle.pairs.specs.Pairs.{mostCommon, rowUseful, blockUseful, taskUseful, UsedSets, Met, MetOnce};
+ghost use Rattle.pairs.specs.Pairs.{mostCommon, rowUseful, blockUseful, taskUseful, UsedSets, Met, Absorbed};
 use cache::sets::common;
 use cache::sets::useful;
-use seen::mark;
-use seen::seen;
 
 // The most cache blocks that the set has in common with one of the used sets.
 pub fn most_common(set: u32, used: &[u32]) -> u32
@@ -25,36 +24,47 @@ pub fn most_common(set: u32, used: &[u32]) -> u32
     most
 }
 
+// The number, raised to the most that the set has in common with one of the used sets. A set of no more than `number` cache blocks
+// cannot raise it; `size` is how many cache blocks the set has.
+fn raised(number: u16, set: u32, size: u32, used: &[u32]) -> u16
+    requires { ⌜ size ≡ ones set ⌝ }
+    ensures { λ r. ⌜ r ≡ max number (mostCommon set (now (used .entry))) ⌝ }
+{
+    if size <= number as u32 {
+        return number;
+    }
+    let most = most_common(set, used) as u16;
+    if number < most { most } else { number }
+}
+
 // The set is met by the used sets of each task.
 fn meet_all(set: u32, used: &[u32], counts: &[usize], tasks: usize, numbers: &mut [u16])
     requires { ⌜ UsedSets (now used) (now counts) tasks × (length (now numbers) ≡ 8) ⌝ }
     ensures { λ _. ⌜ Met (set ∷ []) (now (used .entry)) (now (counts .entry)) tasks (now (numbers .entry)) (now (numbers .exit)) ⌝ }
 {
+    let size = u32::count_ones(set);
     for j in 0..tasks {
         let count = counts[j];
-        let most = most_common(set, &used[32 * j..32 * j + count]) as u16;
-        if numbers[j] < most {
-            numbers[j] = most;
-        }
+        numbers[j] = raised(numbers[j], set, size, &used[32 * j..32 * j + count]);
     }
 }
 
-// The set is met, unless the table says that it was met before.
+// The set is met, unless it stands in the room of sets that were met before; then it stands there. Which of them stand there is left open.
 fn meet_set(
     set: u32,
     used: &[u32],
     counts: &[usize],
     tasks: usize,
-    table: &mut [u64; 1024],
+    met: &mut [u32; 1024],
     numbers: &mut [u16],
 )
-    requires { ⌜ (set < 65536) × UsedSets (now used) (now counts) tasks × (length (now numbers) ≡ 8) ⌝ }
-    ensures { λ _. ⌜ MetOnce (set ∷ []) (now (used .entry)) (now (counts .entry)) tasks
-        (now (table .entry)) (now (numbers .entry)) (now (table .exit)) (now (numbers .exit)) ⌝ }
+    requires { ⌜ UsedSets (now used) (now counts) tasks × (length (now numbers) ≡ 8) × Absorbed (now met) (now used) (now counts) tasks (now numbers) ⌝ }
+    ensures { λ _. ⌜ Met (set ∷ []) (now (used .entry)) (now (counts .entry)) tasks (now (numbers .entry)) (now (numbers .exit))
+        × Absorbed (now (met .exit)) (now (used .entry)) (now (counts .entry)) tasks (now (numbers .exit)) ⌝ }
 {
-    let number = set as u16;
-    if !seen(table, number) {
-        mark(table, number);
+    let at = (set % 1021) as usize;
+    if met[at] != set {
+        met[at] = set;
         meet_all(set, used, counts, tasks, numbers);
     }
 }
@@ -67,22 +77,26 @@ fn meet_row(
     used: &[u32],
     counts: &[usize],
     tasks: usize,
-    table: &mut [u64; 1024],
+    met: &mut [u32; 1024],
     numbers: &mut [u16],
 )
-    requires { ⌜ (length (now row) ≡ 16) × (length (now live) ≡ 512) × (lived ≤ 32)
-        × UsedSets (now used) (now counts) tasks × (length (now numbers) ≡ 8) ⌝ }
-    ensures { λ _. ⌜ MetOnce (rowUseful (now (row .entry)) (rowsOf 16 lived (now (live .entry)))) (now (used .entry)) (now (counts .entry)) tasks
-        (now (table .entry)) (now (numbers .entry)) (now (table .exit)) (now (numbers .exit)) ⌝ }
+    requires { ⌜ Width (length (now row)) × (length (now live) ≡ 32 * length (now row)) × (lived ≤ 32) × UsedSets (now used) (now counts) tasks
+        × (length (now numbers) ≡ 8) × Absorbed (now met) (now used) (now counts) tasks (now numbers) ⌝ }
+    ensures { λ _. ⌜ Met (rowUseful (now (row .entry)) (rowsOf (length (now (row .entry))) lived (now (live .entry))))
+        (now (used .entry)) (now (counts .entry)) tasks (now (numbers .entry)) (now (numbers .exit))
+        × Absorbed (now (met .exit)) (now (used .entry)) (now (counts .entry)) tasks (now (numbers .exit)) ⌝ }
 {
+    let w = row.len();
     for k in 0..lived {
-        let set = useful(row, &live[16 * k..16 * k + 16]);
-        meet_set(set, used, counts, tasks, table, numbers);
+        let at = w * k;
+        let set = useful(row, &live[at..at + w]);
+        meet_set(set, used, counts, tasks, met, numbers);
     }
 }
 
-// The useful sets of a block are met: those of its first `reached` reaching rows with its first `lived` live rows.
+// The useful sets of a block are met: those of its first `reached` reaching rows with its first `lived` live rows, of w numbers each.
 fn meet_block(
+    w: usize,
     reaching: &[u16],
     reached: usize,
     live: &[u16],
@@ -90,30 +104,33 @@ fn meet_block(
     used: &[u32],
     counts: &[usize],
     tasks: usize,
-    table: &mut [u64; 1024],
+    met: &mut [u32; 1024],
     numbers: &mut [u16],
 )
-    requires { ⌜ (length (now reaching) ≡ 512) × (reached ≤ 32) × (length (now live) ≡ 512) × (lived ≤ 32)
-        × UsedSets (now used) (now counts) tasks × (length (now numbers) ≡ 8) ⌝ }
-    ensures { λ _. ⌜ MetOnce (blockUseful (rowsOf 16 reached (now (reaching .entry))) (rowsOf 16 lived (now (live .entry))))
-        (now (used .entry)) (now (counts .entry)) tasks (now (table .entry)) (now (numbers .entry)) (now (table .exit)) (now (numbers .exit)) ⌝ }
+    requires { ⌜ Width w × (length (now reaching) ≡ 32 * w) × (reached ≤ 32) × (length (now live) ≡ 32 * w) × (lived ≤ 32)
+        × UsedSets (now used) (now counts) tasks × (length (now numbers) ≡ 8) × Absorbed (now met) (now used) (now counts) tasks (now numbers) ⌝ }
+    ensures { λ _. ⌜ Met (blockUseful (rowsOf w reached (now (reaching .entry))) (rowsOf w lived (now (live .entry))))
+        (now (used .entry)) (now (counts .entry)) tasks (now (numbers .entry)) (now (numbers .exit))
+        × Absorbed (now (met .exit)) (now (used .entry)) (now (counts .entry)) tasks (now (numbers .exit)) ⌝ }
 {
     for k in 0..reached {
+        let at = w * k;
         meet_row(
-            &reaching[16 * k..16 * k + 16],
+            &reaching[at..at + w],
             live,
             lived,
             used,
             counts,
             tasks,
-            table,
+            met,
             numbers,
         );
     }
 }
 
-// The useful sets of a task are met by the used sets of each task; `reached` and `lived` tell how many rows each block has.
+// The useful sets of a task are met by the used sets of each task; `reached` and `lived` tell how many rows, of w numbers each, a block has.
 pub fn meet_task(
+    w: usize,
     blocks: usize,
     reaching: &[u16],
     reached: &[usize],
@@ -124,22 +141,25 @@ pub fn meet_task(
     tasks: usize,
     numbers: &mut [u16],
 )
-    requires { ⌜ (blocks ≤ 24) × Memory (now reaching) (now reached) × Memory (now live) (now lived)
+    requires { ⌜ (blocks ≤ 24) × Memory w (now reaching) (now reached) × Memory w (now live) (now lived)
         × UsedSets (now used) (now counts) tasks × (length (now numbers) ≡ 8) ⌝ }
-    ensures { λ _. ⌜ Met (taskUseful (heldRows (now (reaching .entry)) (now (reached .entry))) (heldRows (now (live .entry)) (now (lived .entry))) blocks 0)
+    ensures { λ _. ⌜ Met (taskUseful (heldRows w (now (reaching .entry)) (now (reached .entry))) (heldRows w (now (live .entry)) (now (lived .entry))) blocks 0)
         (now (used .entry)) (now (counts .entry)) tasks (now (numbers .entry)) (now (numbers .exit)) ⌝ }
 {
-    let mut table = [0u64; 1024];
+    let mut met = [0u32; 1024];
+    let part = 32 * w;
     for b in 0..blocks {
+        let at = part * b;
         meet_block(
-            &reaching[512 * b..512 * b + 512],
+            w,
+            &reaching[at..at + part],
             reached[b],
-            &live[512 * b..512 * b + 512],
+            &live[at..at + part],
             lived[b],
             used,
             counts,
             tasks,
-            &mut table,
+            &mut met,
             numbers,
         );
     }

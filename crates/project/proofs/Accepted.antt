@@ -9,6 +9,7 @@ use lib.Dec.{eqb, ltb}
 use lib.ListN.{length, getD, take, drop, length-append, take-append-drop}
 use lib.Seq.{drop-cons, drop-drop}
 use borrow.Author.Tests.{eqb-true, ltb-false, le-ltb, not-false}
+use Rattle.cache.specs.Shape.{Holds}
 use Rattle.model.specs.Lists.{Each}
 use Rattle.model.specs.Computed.{sameList}
 use Rattle.model.proofs.Membership.{both-right, sameList-true}
@@ -90,6 +91,10 @@ accepted-passed s n t e = go (fileCheck s) refl e
     go : (r : Check) → fileCheck s ≡ r → pickReading r (cacheBlocks s) (taskCount s) ≡ Accepted n t → (fileCheck s ≡ Passed) × (n ≡ cacheBlocks s) × (t ≡ taskCount s)
     go Passed q e = (q, cc, cc)
     go (Failed c a) q e = let z : _≡_ {A = ℕ} 0 1 = cc in absurd (omega arith)
+
+-- rows of sixteen places or more have one for each cache block of an accepted file
+pub file-holds : (w : ℕ) → 16 ≤ w → (s : List ℕ) {n : ℕ} → fileCheck s ≡ Passed → n ≡ cacheBlocks s → Holds w (record { blocks = n })
+file-holds w h s p e = let is = passing s p in record { some = omega (arith, is .n-low); room = omega (arith, is .n-high) }
 
 -- ---- an accepted file written again
 

@@ -26,7 +26,7 @@ use Rattle.project.specs.File.{cacheBlocks, taskCount, bodies}
 use Rattle.project.specs.Checks.{body, Fault10}
 use Rattle.project.specs.Checklist.{Verdict, lowest}
 use Rattle.project.specs.Reading.{test8, test9, taskChecks, tasksCheck, readingOf}
-use Rattle.project.specs.Tasks.{tasksIn, tasksOf, filePair}
+use Rattle.project.specs.Tasks.{tasksIn, tasksOf, fileCache, filePair}
 use Rattle.project.proofs.Checklists.{verdict-exact}
 use Rattle.project.proofs.TaskFaults.{Bytes, kept-task, tasks-agreeing}
 use Rattle.project.proofs.Verdicts.{bodies-bytes}
@@ -117,8 +117,8 @@ file-rules s h n t e =
     bodies-rules (bodies s) (bodies-bytes s h (taskCount s) 0) (passing s (accepted-passed s n t e .0) .tasks)
 
 -- demand 3 of an accepted file
-pub file-demand-3 : (s : List ℕ) → Bytes s → (n t : ℕ) → readingOf s ≡ Accepted n t → Demand3 n (tasksOf s)
-file-demand-3 s h n t e = demand-3 n (tasksOf s) (file-rules s h n t e)
+pub file-demand-3 : (s : List ℕ) → Bytes s → (n t : ℕ) → readingOf s ≡ Accepted n t → Demand3 (fileCache s) (tasksOf s)
+file-demand-3 s h n t e = demand-3 (fileCache s) (tasksOf s) (file-rules s h n t e)
 
 -- "two accepted files that agree in these agree in it"
 pub pair-agrees : (r s : List ℕ) (i j k l : ℕ) → cacheBlocks r ≡ cacheBlocks s → task (tasksOf r) i ≡ task (tasksOf s) k → task (tasksOf r) j ≡ task (tasksOf s) l

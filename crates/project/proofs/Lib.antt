@@ -6,4 +6,3 @@ pub mod Accepted
 pub mod FileRules
 pub mod Heads
 pub mod ContentsLaws
-pub mod SharingLaws

@@ -1,11 +1,12 @@
 -- Document 01, "Calls": Body. Definitions only.
 use mathlib.Core.Bool.{Bool, true, false, _&&_, cond}
-use mathlib.Core.List.{List, []}
+use mathlib.Core.List.{[]}
 use Prim.Native.Nat.{ℕ}
 use lib.Dec.{ltb}
+use Rattle.body.specs.Layout.{Body}
 use Rattle.project.specs.declared.answers.Reading.{Reading}
 use Rattle.project.specs.declared.answers.Reading.the-variants.{Accepted, Refused}
-use Rattle.project.specs.File.{taskCount, offsetOf, sizeOf, bodyOf}
+use Rattle.project.specs.File.{File, taskCount, offsetOf, sizeOf, bodyOf}
 use Rattle.project.specs.Reading.{readingOf}
 
 abbrev pub accepted : Reading → Bool
@@ -13,16 +14,16 @@ accepted (Accepted n t) = true
 accepted (Refused c a) = false
 
 -- "an empty part if the file isn't accepted or the task isn't below t"
-abbrev pub hasBody : List ℕ → ℕ → Bool
+abbrev pub hasBody : File → ℕ → Bool
 hasBody s j = accepted (readingOf s) && ltb j (taskCount s)
 
 -- where the body of task j stands and how long it is; an empty part at 0 where there is none
-abbrev pub placeStart : List ℕ → ℕ → ℕ
+abbrev pub placeStart : File → ℕ → ℕ
 placeStart s j = cond (hasBody s j) (offsetOf s j) 0
 
-abbrev pub placeLength : List ℕ → ℕ → ℕ
+abbrev pub placeLength : File → ℕ → ℕ
 placeLength s j = cond (hasBody s j) (sizeOf s j) 0
 
 -- "Body hands back a task's body as that part of the file"
-abbrev pub bodyPart : List ℕ → ℕ → List ℕ
+abbrev pub bodyPart : File → ℕ → Body
 bodyPart s j = cond (hasBody s j) (bodyOf s j) []

@@ -8,6 +8,7 @@ use Rattle.model.specs.Lists.{mem}
 use Rattle.model.specs.Tasks.{memoryBlocks}
 use Rattle.model.specs.Computed.{sameList}
 use Rattle.model.specs.OnPath.{allOnPath}
+use Rattle.body.specs.Layout.{Body}
 use Rattle.body.specs.Decode.{decode, taskOf}
 use Rattle.body.specs.Walk.{keptOf}
 use Rattle.project.specs.declared.answers.Check.{Check}
@@ -17,17 +18,17 @@ use Rattle.project.specs.declared.answers.Reading.{Reading}
 use Rattle.project.specs.declared.answers.Reading.the-variants.{Accepted, Refused}
 use Rattle.project.specs.Checks.{Fault2, Fault3, Fault4, Fault5, Fault6, Fault7, Fault8, Fault9, Fault10}
 use Rattle.project.specs.Checklist.{Entry, one, each, noTask, Of, verdictOf}
-use Rattle.project.specs.File.{mark, edition, cacheBlocks, taskCount, offsetOf, sizeOf, bodies}
+use Rattle.project.specs.File.{File, mark, edition, cacheBlocks, taskCount, offsetOf, sizeOf, bodies}
 
 -- ---- the tests of checks 2 to 7
 
-abbrev pub test2 : List ℕ → Bool
+abbrev pub test2 : File → Bool
 test2 s = ltb (length s) 8 || ltb 7544 (length s)
 
-abbrev pub test3 : List ℕ → Bool
+abbrev pub test3 : File → Bool
 test3 s = not (sameList (take 4 s) mark)
 
-abbrev pub test4 : List ℕ → Bool
+abbrev pub test4 : File → Bool
 test4 s = not (eqb (edition s) 1)
 
 abbrev pub test5 : ℕ → Bool
@@ -36,23 +37,23 @@ test5 n = ltb n 1 || ltb 16 n
 abbrev pub countTest : ℕ → Bool
 countTest t = ltb t 1 || ltb 8 t
 
-abbrev pub test6 : List ℕ → Bool
+abbrev pub test6 : File → Bool
 test6 s = countTest (taskCount s) || not (eqb (getD s 7 0) 0)
 
 -- each body of the contents from task j on stands where the last one ended, at first `at`, and the last ends the file
-abbrev pub contentsFit : List ℕ → ℕ → ℕ → ℕ → Bool
+abbrev pub contentsFit : File → ℕ → ℕ → ℕ → Bool
 contentsFit s zero j at = eqb at (length s)
 contentsFit s (suc left) j at = eqb (offsetOf s j) at && contentsFit s left (suc j) (at + sizeOf s j)
 
-abbrev pub test7 : List ℕ → Bool
+abbrev pub test7 : File → Bool
 test7 s = not (contentsFit s (taskCount s) 0 (8 + 4 * taskCount s))
 
 -- ---- the tests of checks 8 to 10, over bodies
 
-abbrev pub test8 : List ℕ → Bool
+abbrev pub test8 : Body → Bool
 test8 b = not (keptOf (decode b))
 
-abbrev pub test9 : List ℕ → Bool
+abbrev pub test9 : Body → Bool
 test9 b = not (allOnPath (taskOf (decode b)))
 
 -- some memory block of the first list is in the second
@@ -61,14 +62,14 @@ meets [] seen = false
 meets (m ∷ ms) seen = mem eqb m seen || meets ms seen
 
 -- the test of check 10 of each task, where `seen` are the memory blocks of the earlier tasks
-abbrev pub sharings : List ℕ → List (List ℕ) → List Bool
+abbrev pub sharings : List ℕ → List Body → List Bool
 sharings seen [] = []
 sharings seen (b ∷ bs) = meets (memoryBlocks (taskOf (decode b))) seen ∷ sharings (seen ++ memoryBlocks (taskOf (decode b))) bs
 
 -- ---- the checks, in their order
 
 -- on the first eight bytes
-abbrev pub headChecks : List ℕ → List Entry
+abbrev pub headChecks : File → List Entry
 headChecks s =
     one 2 noTask (test2 s) (Fault2 s)
     ∷ one 3 noTask (test3 s) (Fault3 s)
@@ -78,7 +79,7 @@ headChecks s =
     ∷ []
 
 -- on bodies
-abbrev pub taskChecks : List (List ℕ) → List Entry
+abbrev pub taskChecks : List Body → List Entry
 taskChecks bs =
     each 8 (map test8 bs) (Of Fault8 [] bs)
     ∷ each 9 (map test9 bs) (Of Fault9 [] bs)
@@ -86,20 +87,20 @@ taskChecks bs =
     ∷ []
 
 -- on the contents and the bodies they tell of
-abbrev pub contentsChecks : List ℕ → List Entry
+abbrev pub contentsChecks : File → List Entry
 contentsChecks s = one 7 noTask (test7 s) (Fault7 s) ∷ taskChecks (bodies s)
 
 -- "Reader checks 2 to 10."
-abbrev pub fileChecks : List ℕ → List Entry
+abbrev pub fileChecks : File → List Entry
 fileChecks s = headChecks s ++ contentsChecks s
 
-abbrev pub headCheck : List ℕ → Check
+abbrev pub headCheck : File → Check
 headCheck s = verdictOf (headChecks s)
 
-abbrev pub tasksCheck : List (List ℕ) → Check
+abbrev pub tasksCheck : List Body → Check
 tasksCheck bs = verdictOf (taskChecks bs)
 
-abbrev pub fileCheck : List ℕ → Check
+abbrev pub fileCheck : File → Check
 fileCheck s = verdictOf (fileChecks s)
 
 -- ---- the answer
@@ -108,5 +109,5 @@ abbrev pub pickReading : Check → ℕ → ℕ → Reading
 pickReading Passed n t = Accepted n t
 pickReading (Failed c a) n t = Refused c a
 
-abbrev pub readingOf : List ℕ → Reading
+abbrev pub readingOf : File → Reading
 readingOf s = pickReading (fileCheck s) (cacheBlocks s) (taskCount s)

@@ -12,12 +12,12 @@ use Rattle.project.specs.declared.answers.Writing.{Writing}
 use Rattle.project.specs.declared.answers.Writing.the-variants.{Written}
 use Rattle.project.specs.declared.answers.Writing.the-variants.{Refused as Unwritten}
 use Rattle.project.specs.Checklist.{Entry, AllPass, FirstFault}
-use Rattle.project.specs.File.{cacheBlocks, taskCount, fileOf}
+use Rattle.project.specs.File.{File, cacheBlocks, taskCount, fileOf}
 use Rattle.project.specs.Reading.{fileChecks}
 use Rattle.project.specs.Writing.{cut, writerChecks}
 
 -- "A file is accepted when 2 to 10 pass."; "Reader answers n and t of a file."
-abbrev pub ReaderVerdict : List ℕ → Reading → Type 0
+abbrev pub ReaderVerdict : File → Reading → Type 0
 ReaderVerdict s (Refused c a) = FirstFault (fileChecks s) c a
 ReaderVerdict s (Accepted n t) = AllPass (fileChecks s) × (n ≡ cacheBlocks s) × (t ≡ taskCount s)
 

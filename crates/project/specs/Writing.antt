@@ -5,6 +5,7 @@ use mathlib.Core.List.{List, [], _∷_, _++_}
 use Prim.Native.Nat.{ℕ, _+_, _*_, _<_}
 use lib.Dec.{eqb, ltb}
 use lib.ListN.{length, take, drop}
+use Rattle.body.specs.Layout.{Body}
 use Rattle.project.specs.declared.answers.Check.{Check}
 use Rattle.project.specs.declared.answers.Check.the-variants.{Passed}
 use Rattle.project.specs.declared.answers.Check.the-variants.{Refused as Failed}
@@ -21,7 +22,7 @@ total [] = 0
 total (l ∷ ls) = l + total ls
 
 -- the joined bodies, cut at their lengths
-abbrev pub cut : List ℕ → List ℕ → List (List ℕ)
+abbrev pub cut : List ℕ → List ℕ → List Body
 cut s [] = []
 cut s (l ∷ ls) = take l s ∷ cut (drop l s) ls
 

@@ -2,4 +2,3 @@
 pub mod answers;
 pub mod contents;
 pub mod head;
-pub mod sharing;

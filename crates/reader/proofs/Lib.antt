@@ -1,3 +1,4 @@
+pub mod SharingLaws
 pub mod TaskLaws
 pub mod ReadLaws
 pub mod TaskBodies

@@ -20,7 +20,7 @@ use Rattle.project.specs.Checklist.{lowest}
 use Rattle.project.specs.Reading.{test8, test9, meets, sharings, tasksCheck}
 use Rattle.project.specs.Ends.{between, InOrder}
 use Rattle.project.proofs.Checklists.{then-none}
-use Rattle.project.proofs.SharingLaws.{meets-append}
+use Rattle.reader.proofs.SharingLaws.{meets-append}
 
 -- ---- one check after the other
 

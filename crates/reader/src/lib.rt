@@ -1,4 +1,5 @@
 // Reader and Body: a project file read, and the body of a task in it.
+mod sharing;
 pub mod tasks;
 
 ghost use mathlib.Core.Path.{_≡_};
@@ -6,9 +7,10 @@ ghost use mathlib.Core.Bool.{true};
 ghost use Prim.Native.Nat.{_+_, _≤_, _<_};
 ghost use lib.ListN.{length};
 ghost use Rattle.project.specs.File.{taskCount, offsetOf, sizeOf, bodyOf};
-ghost use Rattle.project.specs.Reading.{readingOf};
+ghost use Rattle.project.specs.Reading.{headCheck, readingOf};
 ghost use Rattle.project.specs.Bodies.{accepted, placeStart, placeLength, bodyPart};
-use body::block::count;
+use cache::numbers::byte_count;
+use cache::numbers::count;
 use cache::references::number_at;
 use project::answers::Check;
 use project::answers::NO_TASK;
@@ -17,29 +19,35 @@ use project::contents::contents;
 use project::head::head;
 use tasks::check_tasks;
 
+// The answer of Reader for a file whose first eight bytes passed their checks: checks 7 to 10.
+pub fn read_bodies(file: &[u8]) -> Reading
+    requires { ⌜ headCheck (now file) ≡ Check.Passed ⌝ }
+    ensures { λ r. ⌜ r ≡ readingOf (now (file .entry)) ⌝ }
+{
+    let n = file[5];
+    let t = file[6];
+    let found = contents(file, byte_count(t));
+    let ends = found.ends;
+    if found.fit {
+        match check_tasks(file, byte_count(t), ends) {
+            Check::Refused { check, task } => Reading::Refused { check, task },
+            Check::Passed => Reading::Accepted { n, t },
+        }
+    } else {
+        Reading::Refused {
+            check: 7,
+            task: NO_TASK,
+        }
+    }
+}
+
 // Reader: n and t of a file, or the check that it fails first.
 pub fn read(file: &[u8]) -> Reading
     ensures { λ r. ⌜ r ≡ readingOf (now (file .entry)) ⌝ }
 {
     match head(file) {
         Check::Refused { check, task } => Reading::Refused { check, task },
-        Check::Passed => {
-            let n = file[5];
-            let t = file[6];
-            let found = contents(file, count(t));
-            let ends = found.ends;
-            if found.fit {
-                match check_tasks(file, count(t), ends) {
-                    Check::Refused { check, task } => Reading::Refused { check, task },
-                    Check::Passed => Reading::Accepted { n, t },
-                }
-            } else {
-                Reading::Refused {
-                    check: 7,
-                    task: NO_TASK,
-                }
-            }
-        }
+        Check::Passed => read_bodies(file),
     }
 }
 
@@ -55,13 +63,6 @@ const NOWHERE: BodyPlace = BodyPlace {
     length: 0,
 };
 
-// A two-byte number as a count.
-fn wide_count(x: u16) -> usize
-    ensures { λ r. ⌜ (r ≡ x) × (r < 65536) ⌝ }
-{
-    x as usize
-}
-
 // Where the body of a task of an accepted file stands, by the contents.
 pub fn entry(file: &[u8], task: usize) -> BodyPlace
     requires { ⌜ (accepted (readingOf (now file)) ≡ true) × (task < taskCount (now file)) ⌝ }
@@ -70,8 +71,8 @@ pub fn entry(file: &[u8], task: usize) -> BodyPlace
 {
     let at = 8 + 4 * task;
     BodyPlace {
-        start: wide_count(number_at(file, at)),
-        length: wide_count(number_at(file, at + 2)),
+        start: count(number_at(file, at)),
+        length: count(number_at(file, at + 2)),
     }
 }
 
@@ -94,7 +95,7 @@ pub fn place(file: &[u8], task: usize) -> BodyPlace
     match read(file) {
         Reading::Refused { check: _, task: _ } => NOWHERE,
         Reading::Accepted { n: _, t } => {
-            if task < count(t) {
+            if task < byte_count(t) {
                 entry(file, task)
             } else {
                 NOWHERE

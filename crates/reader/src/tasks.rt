@@ -7,14 +7,14 @@ ghost use Rattle.body.specs.Decode.{decode, taskOf};
 ghost use Rattle.project.specs.Checklist.{lowest};
 ghost use Rattle.project.specs.Reading.{test8, test9, meets, sharings, tasksCheck};
 ghost use Rattle.project.specs.Ends.{InOrder, between};
-ghost use Rattle.seen.specs.Seen.{seenTable};
+ghost use Rattle.seen.specs.Seen.{marksOf};
 ghost use Rattle.reader.specs.Tests.{testOf};
+use crate::sharing::mark_all;
+use crate::sharing::meets_seen;
 use body::jumps::on_paths;
 use body::references;
 use body::walk;
 use project::answers::Check;
-use project::sharing::mark_all;
-use project::sharing::meets_seen;
 
 // Check 8 of one body.
 fn breaks_layout(body: &[u8]) -> bool
@@ -35,31 +35,31 @@ fn off_path(body: &[u8]) -> bool
     }
 }
 
-// Whether some memory block of a body is in the list whose table this is.
-fn body_meets(table: &[u64; 1024], body: &[u8]) -> bool
-    ensures { λ r. ⌜ ((ms : List ℕ) → now (table .entry) ≡ seenTable ms → r ≡ meets (memoryBlocks (taskOf (decode (now (body .entry))))) ms) ⌝ }
+// Whether some memory block of a body is in the list whose marks this is.
+fn body_meets(marks: &[u64; 1024], body: &[u8]) -> bool
+    ensures { λ r. ⌜ ((ms : List ℕ) → now (marks .entry) ≡ marksOf ms → r ≡ meets (memoryBlocks (taskOf (decode (now (body .entry))))) ms) ⌝ }
 {
     let walked = walk(body);
     let starts = walked.starts;
     for b in 0..walked.blocks {
         let at = starts[b];
-        if meets_seen(table, references(body, at)) {
+        if meets_seen(marks, references(body, at)) {
             return true;
         }
     }
     false
 }
 
-// The memory blocks of a body are added to the list whose table this is.
-fn mark_body(table: &mut [u64; 1024], body: &[u8])
-    ensures { λ _. ⌜ ((ms : List ℕ) → now (table .entry) ≡ seenTable ms
-        → now (table .exit) ≡ seenTable (ms ++ memoryBlocks (taskOf (decode (now (body .entry)))))) ⌝ }
+// The memory blocks of a body are added to the list whose marks this is.
+fn mark_body(marks: &mut [u64; 1024], body: &[u8])
+    ensures { λ _. ⌜ ((ms : List ℕ) → now (marks .entry) ≡ marksOf ms
+        → now (marks .exit) ≡ marksOf (ms ++ memoryBlocks (taskOf (decode (now (body .entry)))))) ⌝ }
 {
     let walked = walk(body);
     let starts = walked.starts;
     for b in 0..walked.blocks {
         let at = starts[b];
-        mark_all(table, references(body, at));
+        mark_all(marks, references(body, at));
     }
 }
 
@@ -104,17 +104,17 @@ fn first_sharing(bytes: &[u8], count: usize, ends: [usize; 9]) -> Check
     requires { ⌜ InOrder (now bytes) ends count ⌝ }
     ensures { λ r. ⌜ r ≡ lowest 10 0 (sharings [] (between (now (bytes .entry)) ends count 0)) ⌝ }
 {
-    let mut table = [0u64; 1024];
+    let mut marks = [0u64; 1024];
     for j in 0..count {
         let from = ends[j];
         let to = ends[j + 1];
-        if body_meets(&table, &bytes[from..to]) {
+        if body_meets(&marks, &bytes[from..to]) {
             return Check::Refused {
                 check: 10,
                 task: task_byte(j),
             };
         }
-        mark_body(&mut table, &bytes[from..to]);
+        mark_body(&mut marks, &bytes[from..to]);
     }
     Check::Passed
 }

@@ -4,15 +4,16 @@ use mathlib.Core.Path.{_≡_, sym, ap, ap₂, _∙_}
 use mathlib.Core.Bool.{Bool, true, false}
 use mathlib.Core.List.{List}
 use Prim.Native.Nat.{ℕ}
+use Rattle.cache.specs.declared.blocks.CacheShape.{CacheShape}
 use Rattle.project.specs.declared.answers.Check.{Check}
 use Rattle.project.specs.declared.answers.Check.the-variants.{Passed}
 use Rattle.project.specs.declared.answers.Check.the-variants.{Refused as Failed}
 use Rattle.project.specs.declared.answers.Reading.the-variants.{Accepted, Refused as Unread}
-use Rattle.project.specs.File.{taskCount}
+use Rattle.project.specs.File.{cacheBlocks, taskCount}
 use Rattle.project.specs.Checklist.{andThen, verdictOf}
 use Rattle.project.specs.Reading.{fileChecks, fileCheck, readingOf}
 use Rattle.project.specs.Bodies.{accepted}
-use Rattle.project.specs.Tasks.{tasksOf}
+use Rattle.project.specs.Tasks.{tasksOf, fileShape}
 use Rattle.project.proofs.Checklists.{verdict-append}
 use Rattle.project.proofs.Accepted.{accepted-passed}
 use Rattle.reader.proofs.TaskBodies.{refused-check}
@@ -43,6 +44,9 @@ module _ (s sheet : List ℕ) {n u t : ℕ} (e : readingOf s ≡ Accepted n u) (
   pub call-12 : b ≡ false → Refused 12 255 ≡ replayingOf s sheet
   call-12 q = sym (answer-by s sheet (Failed 12 255) (replay-parts s sheet ∙ rw (file-passed, kept, q)))
 
+  shape-of : n ≡ cacheBlocks s → _≡_ {A = CacheShape} (record { blocks = n }) (fileShape s)
+  shape-of q = rw q
+
   pub passed-12 : b ≡ true → Passed12 s sheet
   passed-12 q = record { file = ap accepted e; kept = kept ∙ q }
 
@@ -50,8 +54,8 @@ module _ (s sheet : List ℕ) {n u t : ℕ} (e : readingOf s ≡ Accepted n u) (
     pub call-13 : d ≡ false → Refused 13 255 ≡ replayingOf s sheet
     call-13 g = sym (answer-by s sheet (Failed 13 255) (replay-parts s sheet ∙ rw (file-passed, kept, q, ← ed, g)))
 
-    pub passed-13 : d ≡ true → Passed13 s sheet n
-    passed-13 g = record { rules = passed-12 q; complete = sym ed ∙ g; blocks = accepted-passed s n u e .1 }
+    pub passed-13 : d ≡ true → Passed13 s sheet (record { blocks = n })
+    passed-13 g = record { rules = passed-12 q; complete = sym ed ∙ g; blocks = shape-of (accepted-passed s n u e .1) }
 
     pub call-counted : {x y : ℕ} → d ≡ true → x ≡ undisturbedIn s (runIn s sheet) → y ≡ disturbedIn s (runIn s sheet) → Counted x y ≡ replayingOf s sheet
     call-counted g ex ey =

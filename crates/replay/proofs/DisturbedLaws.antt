@@ -10,22 +10,24 @@ use lib.ListN.{length, getD, take, drop, length-take, length-drop}
 use lib.Seq.{take-all, drop-drop}
 use borrow.Author.Tests.{ltb-true}
 use Rattle.cache.specs.References.{All}
-use Rattle.cache.specs.Cache.{Cache, wide, direct, emptyRow, withReferences}
+use Rattle.cache.specs.Cache.{Cache, emptyRow, withReferences}
+use Rattle.cache.specs.Shape.{shaped}
+use Rattle.cache.specs.declared.blocks.CacheShape.{CacheShape}
 use Rattle.model.specs.Lists.{mem, Each}
 use Rattle.model.specs.Tasks.{Block, Task, block, references, task}
-use Rattle.model.specs.Runs.{Preemption, NeverFall, Kept, atFirst, preempted, countAtEnd}
+use Rattle.model.specs.Runs.{Preemption, NeverFall, RowCount, atFirst, preempted, countAtEnd}
 use Rattle.model.proofs.Membership.{both-left, both-right}
 use Rattle.model.proofs.Paths.{successor-below}
 use Rattle.body.specs.Layout.{InBounds}
 use Rattle.body.proofs.BlockParts.{all-take, all-drop}
 use Rattle.body.proofs.WalksParts.{part-is}
 use Rattle.project.specs.File.{cacheBlocks, taskCount}
-use Rattle.project.specs.Tasks.{tasksOf}
+use Rattle.project.specs.Tasks.{tasksOf, fileCache}
 use Rattle.reader.proofs.TaskBodies.{TaskBody, task-body, task-bounds}
 use Rattle.sheet.specs.Sheet.{SheetRun, preemptionNumbers, PreemptionInRules, InRules}
 use Rattle.sheet.specs.Parsed.{leadsToEnd, completePath, completeEach}
 use Rattle.sheet.proofs.Places.{SheetPlaces, path-part, PreemptionPlaces, preemption-places, none-left}
-use Rattle.runs.specs.Running.{kept, ownPath}
+use Rattle.runs.specs.Running.{rowCount, ownPath}
 use Rattle.replay.specs.Replay.{runIn, undisturbedIn, disturbedIn, Passed13}
 use Rattle.runs.proofs.Segments.{Rises, rises-all, segments, segments-all}
 use Rattle.runs.proofs.PathCounts.{path-row, path-bound}
@@ -48,11 +50,11 @@ complete-blocks t (b ∷ p) e = leads-blocks t b p (both-right (eqb b 0) _ e)
 -- ---- what is left of the run at the position i, where `at` is the next preemption
 
 -- the whole run, by its segments
-abbrev whole : List ℕ → List ℕ → ℕ → Kept
-whole s sheet n =
-    segments (wide 16 n) (tasksOf s) (task (tasksOf s) (runIn s sheet .p)) (runIn s sheet .preemptions) 0 (atFirst (wide 16 n)) (runIn s sheet .path)
+abbrev whole : List ℕ → List ℕ → CacheShape → RowCount
+whole s sheet shape =
+    segments (shaped 32 shape) (tasksOf s) (task (tasksOf s) (runIn s sheet .p)) (runIn s sheet .preemptions) 0 (atFirst (shaped 32 shape)) (runIn s sheet .path)
 
-pub record RunLeft (s sheet : List ℕ) (n : ℕ) (cells : List ℕ) (misses i at : ℕ) : Type 0 where
+pub record RunLeft (s sheet : List ℕ) (shape : CacheShape) (cells : List ℕ) (misses i at : ℕ) : Type 0 where
   pub left : List Preemption
   pub numbers-at : drop at sheet ≡ preemptionNumbers left
   pub rules : Each (PreemptionInRules (taskCount s) (runIn s sheet .p) (length (runIn s sheet .path))) left
@@ -60,10 +62,10 @@ pub record RunLeft (s sheet : List ℕ) (n : ℕ) (cells : List ℕ) (misses i a
   pub rises : Rises i left
   pub in-path : i ≤ length (runIn s sheet .path)
   pub few : misses ≤ 16 * i
-  pub same : segments (wide 16 n) (tasksOf s) (task (tasksOf s) (runIn s sheet .p)) left i (kept cells misses) (drop i (runIn s sheet .path)) ≡ whole s sheet n
+  pub same : segments (shaped 32 shape) (tasksOf s) (task (tasksOf s) (runIn s sheet .p)) left i (rowCount cells misses) (drop i (runIn s sheet .path)) ≡ whole s sheet shape
 
 -- the next preemption
-pub record RunNext (s sheet : List ℕ) (n : ℕ) (cells : List ℕ) (misses i at : ℕ) : Type 0 where
+pub record RunNext (s sheet : List ℕ) (shape : CacheShape) (cells : List ℕ) (misses i at : ℕ) : Type 0 where
   pub first : Preemption
   pub rest : List Preemption
   pub places : PreemptionPlaces sheet at first rest
@@ -73,7 +75,7 @@ pub record RunNext (s sheet : List ℕ) (n : ℕ) (cells : List ℕ) (misses i a
   pub rules : Each (PreemptionInRules (taskCount s) (runIn s sheet .p) (length (runIn s sheet .path))) rest
   pub complete : completeEach (tasksOf s) rest ≡ true
   pub rises : Rises (suc (first .point)) rest
-  pub same : segments (wide 16 n) (tasksOf s) (task (tasksOf s) (runIn s sheet .p)) (first ∷ rest) i (kept cells misses) (drop i (runIn s sheet .path)) ≡ whole s sheet n
+  pub same : segments (shaped 32 shape) (tasksOf s) (task (tasksOf s) (runIn s sheet .p)) (first ∷ rest) i (rowCount cells misses) (drop i (runIn s sheet .path)) ≡ whole s sheet shape
 
 -- the part of the path from the position i up to j, and the path of the preemption at `at`, of m blocks
 abbrev pub ownPart : List ℕ → ℕ → ℕ → List ℕ
@@ -98,9 +100,9 @@ pub record ByRun (s sheet : List ℕ) (at y m : ℕ) : Type 0 where
   pub below : All (λ (b : ℕ). b < length (task (tasksOf s) y)) (byPart sheet at m)
   pub few : length (byPart sheet at m) ≤ 64
 
-module _ (s sheet : List ℕ) (n : ℕ) (h : Passed13 s sheet n) where
+module _ (s sheet : List ℕ) (shape : CacheShape) (h : Passed13 s sheet shape) where
   abbrev k : Cache
-  k = wide 16 n
+  k = shaped 32 shape
 
   abbrev ts : List Task
   ts = tasksOf s
@@ -141,21 +143,21 @@ module _ (s sheet : List ℕ) (n : ℕ) (h : Passed13 s sheet n) where
   each-in [] e = tt
   each-in (x ∷ xs) e = (e .0 .inPath, each-in xs (e .1))
 
-  blocks-low : 0 < n
-  blocks-low = omega (arith, task-body s (h .rules .file) (r .p) (facts .rules .there) .low, h .blocks)
+  blocks-low : 0 < cacheBlocks s
+  blocks-low = task-body s (h .rules .file) (r .p) (facts .rules .there) .low
 
-  blocks-high : n ≤ 16
-  blocks-high = omega (arith, task-body s (h .rules .file) (r .p) (facts .rules .there) .high, h .blocks)
+  blocks-high : cacheBlocks s ≤ 32
+  blocks-high = omega (arith, task-body s (h .rules .file) (r .p) (facts .rules .there) .high)
 
   -- the count of the segments is that of the positions, in a row of as many places as cache blocks
   whole-count : (xs : List Preemption) → NeverFall xs → Each (λ (x : Preemption). x .point < length (r .path)) xs
-      → segments k ts tp xs 0 (atFirst k) (r .path) .count ≡ countAtEnd (direct (cacheBlocks s)) ts tp (r .path) xs
+      → segments k ts tp xs 0 (atFirst k) (r .path) .count ≡ countAtEnd (fileCache s) ts tp (r .path) xs
   whole-count xs f e =
-      ap (λ (a : Kept). a .count) (segments-all k ts tp xs (atFirst k) (r .path) f e)
-      ∙ count-width n 16 blocks-low blocks-high ts tp (r .path) xs
-      ∙ ap (λ (j : ℕ). countAtEnd (direct j) ts tp (r .path) xs) (h .blocks)
+      ap (λ (a : RowCount). a .count) (segments-all k ts tp xs (atFirst k) (r .path) f e)
+      ∙ ap (λ (x : CacheShape). countAtEnd (shaped 32 x) ts tp (r .path) xs) (h .blocks)
+      ∙ count-width (cacheBlocks s) 32 blocks-low blocks-high ts tp (r .path) xs
 
-  pub run-start : {row : List ℕ} {long : ℕ} → row ≡ emptyRow k → long ≡ getD sheet 1 0 → RunLeft s sheet n row 0 0 (3 + long)
+  pub run-start : {row : List ℕ} {long : ℕ} → row ≡ emptyRow k → long ≡ getD sheet 1 0 → RunLeft s sheet shape row 0 0 (3 + long)
   run-start er e = record {
     left = r .preemptions;
     numbers-at = ap (λ l. drop (3 + l) sheet) (e ∙ facts .places .long-at) ∙ facts .places .list-at;
@@ -164,16 +166,16 @@ module _ (s sheet : List ℕ) (n : ℕ) (h : Passed13 s sheet n) where
     rises = rises-all (r .preemptions) (facts .rules .rising);
     in-path = omega arith;
     few = omega arith;
-    same = ap (λ (c : List ℕ). segments k ts tp (r .preemptions) 0 (kept c 0) (r .path)) er;
+    same = ap (λ (c : List ℕ). segments k ts tp (r .preemptions) 0 (rowCount c 0) (r .path)) er;
   }
 
-  module _ (cells : List ℕ) (misses i at : ℕ) (x : RunLeft s sheet n cells misses i at) where
-    pub run-next : at < length sheet → RunNext s sheet n cells misses i at
+  module _ (cells : List ℕ) (misses i at : ℕ) (x : RunLeft s sheet shape cells misses i at) where
+    pub run-next : at < length sheet → RunNext s sheet shape cells misses i at
     run-next l = go (x .left) (x .numbers-at) (x .rules) (x .complete) (x .rises) (x .same)
       where
         go : (xs : List Preemption) → drop at sheet ≡ preemptionNumbers xs → Each (PreemptionInRules (taskCount s) (r .p) (length (r .path))) xs
-            → completeEach ts xs ≡ true → Rises i xs → segments k ts tp xs i (kept cells misses) (drop i (r .path)) ≡ whole s sheet n
-            → RunNext s sheet n cells misses i at
+            → completeEach ts xs ≡ true → Rises i xs → segments k ts tp xs i (rowCount cells misses) (drop i (r .path)) ≡ whole s sheet shape
+            → RunNext s sheet shape cells misses i at
         go [] d rules c rises same = absurd (omega (arith, ap length d, length-drop at sheet))
         go (y ∷ ys) d rules c rises same = record {
           first = y;
@@ -190,7 +192,7 @@ module _ (s sheet : List ℕ) (n : ℕ) (h : Passed13 s sheet n) where
 
     -- ---- a turn: p and q are the numbers of the task and of the next point
 
-    module _ (z : RunNext s sheet n cells misses i at) {p q : ℕ} (ep : p ≡ getD sheet 0 0) (eq : q ≡ getD sheet at 0) where
+    module _ (z : RunNext s sheet shape cells misses i at) {p q : ℕ} (ep : p ≡ getD sheet 0 0) (eq : q ≡ getD sheet at 0) where
       point-is : q + 1 ≡ suc (z .first .point)
       point-is = omega (arith, z .places .point-at)
 
@@ -230,8 +232,8 @@ module _ (s sheet : List ℕ) (n : ℕ) (h : Passed13 s sheet n) where
         }
 
         -- the own blocks up to the point, and then the preempting path
-        pub run-turn : {c1 c2 : List ℕ} {m1 u : ℕ} → kept c1 m1 ≡ ownPath k (task ts p) (kept cells misses) (ownPart sheet i (q + 1))
-            → kept c2 u ≡ ownPath k (task ts y) (kept c1 0) (byPart sheet at m) → RunLeft s sheet n c2 m1 (q + 1) (at + 3 + m)
+        pub run-turn : {c1 c2 : List ℕ} {m1 u : ℕ} → rowCount c1 m1 ≡ ownPath k (task ts p) (rowCount cells misses) (ownPart sheet i (q + 1))
+            → rowCount c2 u ≡ ownPath k (task ts y) (rowCount c1 0) (byPart sheet at m) → RunLeft s sheet shape c2 m1 (q + 1) (at + 3 + m)
         run-turn {c1} {c2} {m1} {u} e1 e2 = record {
           left = z .rest;
           numbers-at = ap (λ (j : ℕ). drop (at + 3 + j) sheet) (em ∙ z .places .long-at) ∙ z .places .rest-at;
@@ -239,19 +241,19 @@ module _ (s sheet : List ℕ) (n : ℕ) (h : Passed13 s sheet n) where
           complete = z .complete;
           rises = rw point-is (z .rises);
           in-path = turn-in;
-          few = omega (arith, ap (λ (a : Kept). a .count) e1, own-adds, part-long i (q + 1), turn-low, x .few);
+          few = omega (arith, ap (λ (a : RowCount). a .count) e1, own-adds, part-long i (q + 1), turn-low, x .few);
           same = on ∙ z .same;
         }
           where
-            own-adds : ownPath k (task ts p) (kept cells misses) (ownPart sheet i (q + 1)) .count ≤ misses + 16 * length (ownPart sheet i (q + 1))
-            own-adds = path-bound k (task ts p) (own-bounds ep) (ownPart sheet i (q + 1)) (kept cells misses)
+            own-adds : ownPath k (task ts p) (rowCount cells misses) (ownPart sheet i (q + 1)) .count ≤ misses + 16 * length (ownPart sheet i (q + 1))
+            own-adds = path-bound k (task ts p) (own-bounds ep) (ownPart sheet i (q + 1)) (rowCount cells misses)
 
-            first-part : kept c1 m1 ≡ ownPath k tp (kept cells misses) (take (suc (z .first .point) - i) (drop i (r .path)))
-            first-part = e1 ∙ ap₂ (λ (t : Task) (l : List ℕ). ownPath k t (kept cells misses) l) (own-task ep) turn-part
+            first-part : rowCount c1 m1 ≡ ownPath k tp (rowCount cells misses) (take (suc (z .first .point) - i) (drop i (r .path)))
+            first-part = e1 ∙ ap₂ (λ (t : Task) (l : List ℕ). ownPath k t (rowCount cells misses) l) (own-task ep) turn-part
 
-            taken : kept c2 m1 ≡ preempted k ts (kept c1 m1) (z .first)
-            taken = ap (λ (c : List ℕ). kept c m1) (
-                ap (λ (a : Kept). a .row) e2 ∙ path-row k (task ts y) (byPart sheet at m) (kept c1 0)
+            taken : rowCount c2 m1 ≡ preempted k ts (rowCount c1 m1) (z .first)
+            taken = ap (λ (c : List ℕ). rowCount c m1) (
+                ap (λ (a : RowCount). a .row) e2 ∙ path-row k (task ts y) (byPart sheet at m) (rowCount c1 0)
                 ∙ ap₂ (λ (t : Task) (l : List ℕ). withReferences k c1 (references t l)) by-task by-part)
 
             further : drop (suc (z .first .point) - i) (drop i (r .path)) ≡ drop (suc (z .first .point)) (r .path)
@@ -259,11 +261,11 @@ module _ (s sheet : List ℕ) (n : ℕ) (h : Passed13 s sheet n) where
                 let e : i + (suc (z .first .point) - i) ≡ suc (z .first .point) = omega (arith, z .low) in
                 drop-drop (suc (z .first .point) - i) i (r .path) ∙ ap (λ (j : ℕ). drop j (r .path)) e
 
-            on : segments k ts tp (z .rest) (q + 1) (kept c2 m1) (drop (q + 1) (r .path)) ≡ segments k ts tp (z .first ∷ z .rest) i (kept cells misses) (drop i (r .path))
+            on : segments k ts tp (z .rest) (q + 1) (rowCount c2 m1) (drop (q + 1) (r .path)) ≡ segments k ts tp (z .first ∷ z .rest) i (rowCount cells misses) (drop i (r .path))
             on =
-                ap (λ (j : ℕ). segments k ts tp (z .rest) j (kept c2 m1) (drop j (r .path))) point-is
-                ∙ ap₂ (λ (a : Kept) (l : List ℕ). segments k ts tp (z .rest) (suc (z .first .point)) a l)
-                (taken ∙ ap (λ (a : Kept). preempted k ts a (z .first)) first-part) (sym further)
+                ap (λ (j : ℕ). segments k ts tp (z .rest) j (rowCount c2 m1) (drop j (r .path))) point-is
+                ∙ ap₂ (λ (a : RowCount) (l : List ℕ). segments k ts tp (z .rest) (suc (z .first .point)) a l)
+                (taken ∙ ap (λ (a : RowCount). preempted k ts a (z .first)) first-part) (sym further)
 
     -- ---- the end: p and long are the numbers of the task and of its path's length
 
@@ -286,12 +288,12 @@ module _ (s sheet : List ℕ) (n : ℕ) (h : Passed13 s sheet n) where
         few = omega (arith, part-long i long, in-path, x .few, facts .places .long-at, facts .rules .bounds .few);
       }
 
-      pub run-end : {c1 : List ℕ} {m1 : ℕ} → kept c1 m1 ≡ ownPath k (task ts p) (kept cells misses) (ownPart sheet i long) → m1 ≡ disturbedIn s r
+      pub run-end : {c1 : List ℕ} {m1 : ℕ} → rowCount c1 m1 ≡ ownPath k (task ts p) (rowCount cells misses) (ownPart sheet i long) → m1 ≡ disturbedIn s r
       run-end e =
           let none = none-left sheet at (x .left) l (x .numbers-at) in
-          ap (λ (a : Kept). a .count) (
-          e ∙ ap₂ (λ (t : Task) (l : List ℕ). ownPath k t (kept cells misses) l) (own-task ep) end-part
-          ∙ ap (λ (xs : List Preemption). segments k ts tp xs i (kept cells misses) (drop i (r .path))) (sym none) ∙ x .same)
+          ap (λ (a : RowCount). a .count) (
+          e ∙ ap₂ (λ (t : Task) (l : List ℕ). ownPath k t (rowCount cells misses) l) (own-task ep) end-part
+          ∙ ap (λ (xs : List Preemption). segments k ts tp xs i (rowCount cells misses) (drop i (r .path))) (sym none) ∙ x .same)
           ∙ whole-count (r .preemptions) (facts .rules .rising) (each-in (r .preemptions) (facts .rules .each))
 
   -- ---- without preemptions
@@ -303,9 +305,9 @@ module _ (s sheet : List ℕ) (n : ℕ) (h : Passed13 s sheet n) where
     pub quiet-few : length (take (2 + long - 2) (drop 2 sheet)) ≤ 64
     quiet-few = omega (arith, ap length (own-path s sheet facts ep el), facts .rules .bounds .few)
 
-    pub quiet-end : {row c1 : List ℕ} {m1 : ℕ} → row ≡ emptyRow k → kept c1 m1 ≡ ownPath k (task ts p) (kept row 0) (take (2 + long - 2) (drop 2 sheet)) → m1 ≡ undisturbedIn s r
+    pub quiet-end : {row c1 : List ℕ} {m1 : ℕ} → row ≡ emptyRow k → rowCount c1 m1 ≡ ownPath k (task ts p) (rowCount row 0) (take (2 + long - 2) (drop 2 sheet)) → m1 ≡ undisturbedIn s r
     quiet-end er e =
-        ap (λ (a : Kept). a .count) (
-        e ∙ ap (λ (c : List ℕ). ownPath k (task ts p) (kept c 0) (take (2 + long - 2) (drop 2 sheet))) er
+        ap (λ (a : RowCount). a .count) (
+        e ∙ ap (λ (c : List ℕ). ownPath k (task ts p) (rowCount c 0) (take (2 + long - 2) (drop 2 sheet))) er
         ∙ ap₂ (λ (t : Task) (l : List ℕ). ownPath k t (atFirst k) l) (own-task ep) (own-path s sheet facts ep el))
         ∙ whole-count [] tt tt

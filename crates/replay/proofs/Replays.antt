@@ -9,7 +9,6 @@ use native.Mathlib.Omega.{arith}
 use lib.ListN.{length}
 use borrow.Author.Tests.{not-true, not-false}
 use Rattle.cache.specs.References.{All}
-use Rattle.cache.specs.Cache.{direct}
 use Rattle.model.specs.Lists.{Each}
 use Rattle.model.specs.Tasks.{task}
 use Rattle.model.specs.Runs.{Preemption, Preempts, DisturbedRun, U, D}
@@ -24,7 +23,7 @@ use Rattle.project.specs.File.{cacheBlocks, taskCount}
 use Rattle.project.specs.Checklist.{noTask, numbers, Verdict, verdictOf, Agreeing}
 use Rattle.project.specs.Reading.{fileChecks, fileCheck, readingOf}
 use Rattle.project.specs.Bodies.{accepted}
-use Rattle.project.specs.Tasks.{tasksOf}
+use Rattle.project.specs.Tasks.{tasksOf, fileCache}
 use Rattle.project.proofs.Checklists.{verdict-exact, agreeing-append}
 use Rattle.project.proofs.Verdicts.{file-agreeing}
 use Rattle.project.proofs.Accepted.{unless-passed, then-passed, passing, accepted-passed}
@@ -125,7 +124,7 @@ replayed s h sheet u d e = subst (λ (x : Replaying). ReplayVerdict s sheet x) e
 pub record ReplayBounded (s sheet : List ℕ) (u d : ℕ) : Type 0 where
   pub is : Replayed s sheet u d
   pub lower : u ≤ d
-  pub upper : d ≤ u + pairSum (cacheBlocks s) (tasksOf s) (is .run .p) (is .run .preemptions)
+  pub upper : d ≤ u + pairSum (fileCache s) (tasksOf s) (is .run .p) (is .run .preemptions)
 
 pub replay-bounded : (s : List ℕ) → All (λ (x : ℕ). x < 256) s → (sheet : List ℕ) (u d : ℕ) → replayingOf s sheet ≡ Counted u d → ReplayBounded s sheet u d
 replay-bounded s h sheet u d e =
@@ -136,7 +135,7 @@ replay-bounded s h sheet u d e =
 -- ---- a run of an accepted file that a sheet can hold: the answer, and that its numbers are of two bytes
 
 pub run-replayed : (s : List ℕ) → accepted (readingOf s) ≡ true → (run : DisturbedRun (tasksOf s)) → Fits (tasksOf s) run
-    → replayingOf s (sheetNumbers (sheetRun (tasksOf s) run)) ≡ Counted (U (direct (cacheBlocks s)) run) (D (direct (cacheBlocks s)) run)
+    → replayingOf s (sheetNumbers (sheetRun (tasksOf s) run)) ≡ Counted (U (fileCache s) run) (D (fileCache s) run)
 run-replayed s h run f =
     let o = run-sheet (tasksOf s) run f in
     let sheet = sheetNumbers (sheetRun (tasksOf s) run) in

@@ -3,72 +3,72 @@ use mathlib.Core.Path.{_≡_}
 use mathlib.Core.Bool.{Bool, true, not}
 use mathlib.Core.List.{List, [], _∷_, _++_}
 use Prim.Native.Nat.{ℕ}
-use Rattle.cache.specs.Cache.{direct}
+use Rattle.cache.specs.declared.blocks.CacheShape.{CacheShape}
 use Rattle.model.specs.Tasks.{task}
 use Rattle.model.specs.Runs.{countAtEnd}
 use Rattle.project.specs.declared.answers.Check.{Check}
 use Rattle.project.specs.declared.answers.Check.the-variants.{Passed}
 use Rattle.project.specs.declared.answers.Check.the-variants.{Refused as Failed}
-use Rattle.project.specs.File.{cacheBlocks, taskCount}
+use Rattle.project.specs.File.{File, taskCount}
 use Rattle.project.specs.Checklist.{Entry, one, noTask, verdictOf}
 use Rattle.project.specs.Reading.{fileChecks, readingOf}
 use Rattle.project.specs.Bodies.{accepted}
-use Rattle.project.specs.Tasks.{tasksOf}
-use Rattle.sheet.specs.Sheet.{SheetRun, Fault12, Fault13}
+use Rattle.project.specs.Tasks.{tasksOf, fileShape, fileCache}
+use Rattle.sheet.specs.Sheet.{SheetRun, Sheet, Fault12, Fault13}
 use Rattle.sheet.specs.Parsed.{parse, keptSheet, runOf, completeAll}
 use Rattle.replay.specs.declared.Replaying.{Replaying}
 use Rattle.replay.specs.declared.Replaying.the-variants.{Counted, Refused}
 
 -- the run that the sheet says, of tasks of the file s
-abbrev pub runIn : List ℕ → List ℕ → SheetRun
+abbrev pub runIn : File → Sheet → SheetRun
 runIn s sheet = runOf (parse (taskCount s) sheet)
 
 -- check 12: the sheet is not the numbers of a run that keeps the rules
-abbrev pub test12 : List ℕ → List ℕ → Bool
+abbrev pub test12 : File → Sheet → Bool
 test12 s sheet = not (keptSheet (parse (taskCount s) sheet))
 
 -- check 13: some path of the run isn't complete
-abbrev pub test13 : List ℕ → List ℕ → Bool
+abbrev pub test13 : File → Sheet → Bool
 test13 s sheet = not (completeAll (tasksOf s) (runIn s sheet))
 
 -- the checks on the sheet
-abbrev pub sheetChecks : List ℕ → List ℕ → List Entry
+abbrev pub sheetChecks : File → Sheet → List Entry
 sheetChecks s sheet =
     one 12 noTask (test12 s sheet) (Fault12 (taskCount s) sheet)
     ∷ one 13 noTask (test13 s sheet) (Fault13 (tasksOf s) sheet)
     ∷ []
 
 -- "Replay checks 2 to 10, 12, 13."
-abbrev pub replayChecks : List ℕ → List ℕ → List Entry
+abbrev pub replayChecks : File → Sheet → List Entry
 replayChecks s sheet = fileChecks s ++ sheetChecks s sheet
 
-abbrev pub replayCheck : List ℕ → List ℕ → Check
+abbrev pub replayCheck : File → Sheet → Check
 replayCheck s sheet = verdictOf (replayChecks s sheet)
 
 -- "U and D, the misses of p's own references without and with the preemptions, both from an empty cache"
-abbrev pub undisturbedIn : List ℕ → SheetRun → ℕ
-undisturbedIn s r = countAtEnd (direct (cacheBlocks s)) (tasksOf s) (task (tasksOf s) (r .p)) (r .path) []
+abbrev pub undisturbedIn : File → SheetRun → ℕ
+undisturbedIn s r = countAtEnd (fileCache s) (tasksOf s) (task (tasksOf s) (r .p)) (r .path) []
 
-abbrev pub disturbedIn : List ℕ → SheetRun → ℕ
-disturbedIn s r = countAtEnd (direct (cacheBlocks s)) (tasksOf s) (task (tasksOf s) (r .p)) (r .path) (r .preemptions)
+abbrev pub disturbedIn : File → SheetRun → ℕ
+disturbedIn s r = countAtEnd (fileCache s) (tasksOf s) (task (tasksOf s) (r .p)) (r .path) (r .preemptions)
 
 -- both counts where the checks pass, else the check that fails first and the task it names
 abbrev pub pickReplaying : Check → ℕ → ℕ → Replaying
 pickReplaying Passed u d = Counted u d
 pickReplaying (Failed c a) u d = Refused c a
 
-abbrev pub replayingOf : List ℕ → List ℕ → Replaying
+abbrev pub replayingOf : File → Sheet → Replaying
 replayingOf s sheet = pickReplaying (replayCheck s sheet) (undisturbedIn s (runIn s sheet)) (disturbedIn s (runIn s sheet))
 
 -- ---- for the functions within Replay
 
 -- checks 2 to 12 pass
-pub record Passed12 (s sheet : List ℕ) : Type 0 where
+pub record Passed12 (s : File) (sheet : Sheet) : Type 0 where
   pub file : accepted (readingOf s) ≡ true
   pub kept : keptSheet (parse (taskCount s) sheet) ≡ true
 
--- checks 2 to 13 pass, and n is the file's
-pub record Passed13 (s sheet : List ℕ) (n : ℕ) : Type 0 where
+-- checks 2 to 13 pass, and the shape is that of the file's cache
+pub record Passed13 (s : File) (sheet : Sheet) (shape : CacheShape) : Type 0 where
   pub rules : Passed12 s sheet
   pub complete : completeAll (tasksOf s) (runIn s sheet) ≡ true
-  pub blocks : n ≡ cacheBlocks s
+  pub blocks : shape ≡ fileShape s

@@ -1,25 +1,23 @@
 -- Document 01, "Numbers of the checks": the verdict on a file and a run sheet. Definitions only.
 use mathlib.Core.Path.{_≡_}
-use mathlib.Core.List.{List}
 use Prim.Native.Nat.{ℕ}
-use Rattle.cache.specs.Cache.{direct}
 use Rattle.model.specs.Runs.{DisturbedRun, U, D}
-use Rattle.project.specs.File.{cacheBlocks}
+use Rattle.project.specs.File.{File}
 use Rattle.project.specs.Checklist.{AllPass, FirstFault}
-use Rattle.project.specs.Tasks.{tasksOf}
-use Rattle.sheet.specs.Sheet.{sheetNumbers}
+use Rattle.project.specs.Tasks.{tasksOf, fileCache}
+use Rattle.sheet.specs.Sheet.{Sheet, sheetNumbers}
 use Rattle.replay.specs.Replay.{replayChecks}
 use Rattle.replay.specs.declared.Replaying.{Replaying}
 use Rattle.replay.specs.declared.Replaying.the-variants.{Counted, Refused}
 
 -- the sheet is that of a disturbed run, and its counts are u and d: "Where replay accepts a sheet of the run, U and D are its answers."
-pub record Replayed (s sheet : List ℕ) (u d : ℕ) : Type 0 where
+pub record Replayed (s : File) (sheet : Sheet) (u d : ℕ) : Type 0 where
   pub run : DisturbedRun (tasksOf s)
   pub sheet-of : sheet ≡ sheetNumbers (record { p = run .p; path = run .path; preemptions = run .preemptions })
-  pub undisturbed : u ≡ U (direct (cacheBlocks s)) run
-  pub disturbed : d ≡ D (direct (cacheBlocks s)) run
+  pub undisturbed : u ≡ U (fileCache s) run
+  pub disturbed : d ≡ D (fileCache s) run
 
 -- what Replay's answer says of its checks, and of the run where they pass
-abbrev pub ReplayVerdict : List ℕ → List ℕ → Replaying → Type 0
+abbrev pub ReplayVerdict : File → Sheet → Replaying → Type 0
 ReplayVerdict s sheet (Refused c a) = FirstFault (replayChecks s sheet) c a
 ReplayVerdict s sheet (Counted u d) = AllPass (replayChecks s sheet) × Replayed s sheet u d

@@ -9,9 +9,9 @@ ghost use Rattle.project.specs.Bodies.{accepted};
 ghost use Rattle.project.specs.Tasks.{tasksOf};
 ghost use Rattle.sheet.specs.Parsed.{completePath, completeEach, completeAll};
 ghost use Rattle.replay.specs.Replay.{runIn, Passed12};
+use cache::numbers::count;
 use reader::task_body;
 use sheet::complete::complete;
-use sheet::rules::count;
 
 // Whether a path of the task numbered j is complete.
 fn complete_in(file: &[u8], j: usize, path: &[u16]) -> bool

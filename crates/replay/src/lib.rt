@@ -3,14 +3,18 @@ mod checks;
 mod counts;
 
 ghost use mathlib.Core.Path.{_≡_};
+ghost use Rattle.project.specs.Reading.{headCheck};
 ghost use Rattle.replay.specs.Replay.{replayingOf};
-use body::block::count;
+use cache::blocks::CacheShape;
+use cache::numbers::byte_count;
 use checks::all_complete;
 use counts::disturbed;
 use counts::undisturbed;
+use project::answers::Check;
 use project::answers::NO_TASK;
 use project::answers::Reading;
-use reader::read;
+use project::head::head;
+use reader::read_bodies;
 use sheet::rules::sheet_kept;
 
 // What Replay answers: the misses of the run's own references without and with the preemptions, or the check that fails first and the task it names.
@@ -19,17 +23,19 @@ pub enum Replaying {
     Refused { check: u8, task: u8 },
 }
 
-// Replay: U and D of the run that the sheet says, or the check that fails first.
-pub fn replay(file: &[u8], sheet: &[u16]) -> Replaying
+// The answer of Replay for a file whose first eight bytes passed their checks.
+fn replay_bodies(file: &[u8], sheet: &[u16]) -> Replaying
+    requires { ⌜ headCheck (now file) ≡ Check.Passed ⌝ }
     ensures { λ r. ⌜ r ≡ replayingOf (now (file .entry)) (now (sheet .entry)) ⌝ }
 {
-    match read(file) {
+    match read_bodies(file) {
         Reading::Refused { check, task } => Replaying::Refused { check, task },
         Reading::Accepted { n, t } => {
-            if sheet_kept(sheet, count(t)) {
+            if sheet_kept(sheet, byte_count(t)) {
                 if all_complete(file, sheet) {
-                    let u = undisturbed(file, sheet, n);
-                    let d = disturbed(file, sheet, n);
+                    let shape = CacheShape { blocks: n };
+                    let u = undisturbed(file, sheet, shape);
+                    let d = disturbed(file, sheet, shape);
                     return Replaying::Counted {
                         undisturbed: u,
                         disturbed: d,
@@ -45,5 +51,16 @@ pub fn replay(file: &[u8], sheet: &[u16]) -> Replaying
                 task: NO_TASK,
             }
         }
+    }
+}
+
+// Replay: U and D of the run that the sheet says, or the check that fails first. The first bytes are checked here, so that a file that
+// they refuse costs no call.
+pub fn replay(file: &[u8], sheet: &[u16]) -> Replaying
+    ensures { λ r. ⌜ r ≡ replayingOf (now (file .entry)) (now (sheet .entry)) ⌝ }
+{
+    match head(file) {
+        Check::Refused { check, task } => Replaying::Refused { check, task },
+        Check::Passed => replay_bodies(file, sheet),
     }
 }

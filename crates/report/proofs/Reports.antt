@@ -14,7 +14,7 @@ use Rattle.project.specs.declared.answers.Filling.the-variants.{Filled, Refused
 use Rattle.project.specs.File.{cacheBlocks, taskCount}
 use Rattle.project.specs.Filling.{pickFilling}
 use Rattle.project.specs.Reading.{fileCheck}
-use Rattle.project.specs.Tasks.{tasksOf}
+use Rattle.project.specs.Tasks.{tasksOf, fileCacheIn}
 use Rattle.project.proofs.Accepted.{Passing, passing, then-passed}
 use Rattle.table.specs.Table.{firstFull, pickTable, tableOf, tableCheck, tableAnswer, tableAfter}
 use Rattle.table.proofs.Answers.{later-parts}
@@ -50,7 +50,7 @@ module _ (s area table : List ℕ) (ha : length area ≡ 24832) (ht : length tab
     -- the file is accepted
     pub filled-passing : Passing s
     unfolding checksOf
-    filled-passing = passing s (then-passed (fileCheck s) (firstFull 16 (cacheBlocks s) 0 (tasksOf s)) (sym (later-parts 16 s) ∙ sym checks ∙ passed) .0)
+    filled-passing = passing s (then-passed (fileCheck s) (firstFull (fileCacheIn 16 s) 0 (tasksOf s)) (sym (later-parts 16 s) ∙ sym checks ∙ passed) .0)
 
     -- what the table now holds is printed
     pub printed-filled : {numbers : List ℕ} → numbers ≡ tableAfter 16 s area table → printed s ≡ tableText (cacheBlocks s) (taskCount s) numbers

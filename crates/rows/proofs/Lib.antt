@@ -2,3 +2,4 @@ pub mod Overlay
 pub mod Overlays
 pub mod Parts
 pub mod Answers
+pub mod Chunks

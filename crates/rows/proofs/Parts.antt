@@ -4,12 +4,12 @@ use mathlib.Core.Path.{_≡_, refl, sym, ap, ap₂, _∙_}
 use mathlib.Core.Bool.{Bool, false, _||_}
 use mathlib.Core.List.{List, [], _∷_, _++_, append-assoc}
 use Prim.Native.Nat.{ℕ, zero, suc, _+_, _-_, _*_, _≤_, _<_}
-use native.Mathlib.Nat.{sub-zero, min-le-left}
+use native.Mathlib.Nat.{sub-zero, min-le-left, mul-add, mul-one, mul-zero, mul-le-mul-left}
 use borrow.Rule.Slice.PartMut.{putMid, post-is}
 use native.Mathlib.Omega.{arith}
 use native.Mathlib.Numerals.{add-one}
 use lib.ListN.{length, getD, take, drop, set, length-append, length-take, length-drop, List·getD-append}
-use lib.Seq.{paste, take-length, take-all, take-suc, take-suc-set, take-add, take-at, drop-at, getD-take, getD-drop, drop-drop, length-take-le, getD-append-add, ext-getD}
+use lib.Seq.{paste, take-length, take-all, take-suc, take-suc-set, take-take, take-add, take-at, drop-at, getD-take, getD-drop, drop-drop, length-take-le, getD-append-add, ext-getD}
 use Rattle.model.specs.Lists.{mem}
 use Rattle.model.specs.Computed.{sameList}
 use Rattle.rows.specs.Rows.{rowsOf}
@@ -30,67 +30,75 @@ copy-turn l s base i h k e =
 pub copy-end : (n : ℕ) (l s : List ℕ) (i : ℕ) → length l ≡ n → i ≡ n → take i l ≡ take i s → l ≡ take n s
 copy-end n l s i h e q = sym (take-all n l (omega arith)) ∙ rw e at q
 
--- ---- the search
+-- ---- the search, among rows of w numbers
 
-pub rows-next : (n k : ℕ) (l : List ℕ) → k < n → rowsOf 16 (n - k) (drop (16 * k) l) ≡ take 16 (drop (16 * k) l) ∷ rowsOf 16 (n - (k + 1)) (drop (16 * (k + 1)) l)
-rows-next n k l h =
+pub next-row : (w k : ℕ) → w * (k + 1) ≡ w * k + w
+next-row w k = rw (mul-add w k 1, mul-one w)
+
+pub rows-next : (w n k : ℕ) (l : List ℕ) → k < n → rowsOf w (n - k) (drop (w * k) l) ≡ take w (drop (w * k) l) ∷ rowsOf w (n - (k + 1)) (drop (w * (k + 1)) l)
+rows-next w n k l h =
     let e : n - k ≡ suc (n - (k + 1)) = omega arith in
-    let f : 16 * (k + 1) ≡ 16 * k + 16 = omega arith in
-    rw (e, f, ← drop-drop 16 (16 * k) l)
+    rw (e, next-row w k, ← drop-drop w (w * k) l)
 
-pub search-start : (n : ℕ) (l row : List ℕ) → mem sameList row (rowsOf 16 (n - 0) (drop (16 * 0) l)) ≡ mem sameList row (rowsOf 16 n l)
-search-start n l row = rw (sub-zero n)
+pub search-start : (w n : ℕ) (l row : List ℕ) → mem sameList row (rowsOf w (n - 0) (drop (w * 0) l)) ≡ mem sameList row (rowsOf w n l)
+search-start w n l row = rw (sub-zero n, mul-zero w)
 
--- a turn: b tells whether the row is the one numbered k, which was lent as a part from 16 k to 16 k + 16
-pub search-turn : (n k : ℕ) (l row : List ℕ) {b : Bool} → k < n → b ≡ sameList row (take (16 * k + 16 - 16 * k) (drop (16 * k) l))
-    → mem sameList row (rowsOf 16 (n - k) (drop (16 * k) l)) ≡ (b || mem sameList row (rowsOf 16 (n - (k + 1)) (drop (16 * (k + 1)) l)))
-search-turn n k l row h e =
-    let s : 16 * k + 16 - 16 * k ≡ 16 = omega arith in
-    ap (mem sameList row) (rows-next n k l h)
-    ∙ ap (λ (t : Bool). t || mem sameList row (rowsOf 16 (n - (k + 1)) (drop (16 * (k + 1)) l)))
-    (sym (e ∙ ap (λ (m : ℕ). sameList row (take m (drop (16 * k) l))) s))
+-- a turn: b tells whether the row is the one numbered k, which was lent as a part from w k to w k + w
+pub search-turn : (w n k : ℕ) (l row : List ℕ) {b : Bool} → k < n → b ≡ sameList row (take (w * k + w - w * k) (drop (w * k) l))
+    → mem sameList row (rowsOf w (n - k) (drop (w * k) l)) ≡ (b || mem sameList row (rowsOf w (n - (k + 1)) (drop (w * (k + 1)) l)))
+search-turn w n k l row h e =
+    let s : w * k + w - w * k ≡ w = omega arith in
+    ap (mem sameList row) (rows-next w n k l h)
+    ∙ ap (λ (t : Bool). t || mem sameList row (rowsOf w (n - (k + 1)) (drop (w * (k + 1)) l)))
+    (sym (e ∙ ap (λ (m : ℕ). sameList row (take m (drop (w * k) l))) s))
 
-pub search-end : (n k : ℕ) (l row : List ℕ) → n ≤ k → mem sameList row (rowsOf 16 (n - k) l) ≡ false
-search-end n k l row h = let e : n - k ≡ 0 = omega arith in rw e
+pub search-end : (w n k : ℕ) (l row : List ℕ) → n ≤ k → mem sameList row (rowsOf w (n - k) l) ≡ false
+search-end w n k l row h = let e : n - k ≡ 0 = omega arith in rw e
 
 -- ---- rows after rows
 
-pub rows-length : (n : ℕ) (l : List ℕ) → length (rowsOf 16 n l) ≡ n
-rows-length zero l = refl
-rows-length (suc n) l = ap suc (rows-length n (drop 16 l))
+-- the row numbered k of at most n ends within n rows
+pub row-within : (w k n : ℕ) → k < n → w * k + w ≤ w * n
+row-within w k n h = rw (← next-row w k) (mul-le-mul-left w (omega arith))
+
+pub rows-length : (w n : ℕ) (l : List ℕ) → length (rowsOf w n l) ≡ n
+rows-length w zero l = refl
+rows-length w (suc n) l = ap suc (rows-length w n (drop w l))
+
+pub after-first : (w n : ℕ) → w * suc n ≡ w + w * n
+after-first w n = rw (← add-one n, next-row w n) (omega arith)
 
 -- the row numbered k
-pub rows-at : (n k : ℕ) (l : List ℕ) → k < n → getD (rowsOf 16 n l) k [] ≡ take 16 (drop (16 * k) l)
-rows-at zero k l h = absurd (omega arith)
-rows-at (suc n) zero l h = refl
-rows-at (suc n) (suc k) l h = let e : 16 * suc k ≡ 16 + 16 * k = omega arith in rows-at n k (drop 16 l) (omega arith) ∙ rw (e, drop-drop (16 * k) 16 l)
+pub rows-at : (w n k : ℕ) (l : List ℕ) → k < n → getD (rowsOf w n l) k [] ≡ take w (drop (w * k) l)
+rows-at w zero k l h = absurd (omega arith)
+rows-at w (suc n) zero l h = rw (mul-zero w)
+rows-at w (suc n) (suc k) l h = rows-at w n k (drop w l) (omega arith) ∙ rw (after-first w k, drop-drop (w * k) w l)
 
-pub rows-snoc : (n : ℕ) (l : List ℕ) → rowsOf 16 (suc n) l ≡ rowsOf 16 n l ++ (take 16 (drop (16 * n) l) ∷ [])
-rows-snoc zero l = refl
-rows-snoc (suc n) l =
-    let e : 16 * suc n ≡ 16 + 16 * n = omega arith in
-    ap (λ (x : List (List ℕ)). take 16 l ∷ x) (rows-snoc n (drop 16 l) ∙ rw (e, drop-drop (16 * n) 16 l))
+pub rows-snoc : (w n : ℕ) (l : List ℕ) → rowsOf w (suc n) l ≡ rowsOf w n l ++ (take w (drop (w * n) l) ∷ [])
+rows-snoc w zero l = rw (mul-zero w)
+rows-snoc w (suc n) l =
+    ap (λ (x : List (List ℕ)). take w l ∷ x) (rows-snoc w n (drop w l) ∙ rw (after-first w n, drop-drop (w * n) w l))
 
 -- what stands after the rows does not matter
-rows-front : (n : ℕ) (l x : List ℕ) → 16 * n ≤ length l → rowsOf 16 n (take (16 * n) l ++ x) ≡ rowsOf 16 n l
-rows-front zero l x h = refl
-rows-front (suc n) l x h =
-    let e : 16 * suc n ≡ 16 + 16 * n = omega arith in
-    let s : take (16 * suc n) l ++ x ≡ take 16 l ++ (take (16 * n) (drop 16 l) ++ x) = rw (e, take-add 16 (16 * n) l) (append-assoc (take 16 l) (take (16 * n) (drop 16 l)) x) in
-    let f : length (take 16 l) ≡ 16 = length-take-le 16 l (omega arith) in
-    let rest = take (16 * n) (drop 16 l) ++ x in
-    ap (rowsOf 16 (suc n)) s
-    ∙ ap₂ (λ (r : List ℕ) (rs : List (List ℕ)). r ∷ rs) (take-at (take 16 l) rest 16 f)
-    (ap (rowsOf 16 n) (drop-at (take 16 l) rest 16 f) ∙ rows-front n (drop 16 l) x (simp length-drop (omega arith)))
+rows-front : (w n : ℕ) (l x : List ℕ) → w * n ≤ length l → rowsOf w n (take (w * n) l ++ x) ≡ rowsOf w n l
+rows-front w zero l x h = refl
+rows-front w (suc n) l x h =
+    let e = after-first w n in
+    let s : take (w * suc n) l ++ x ≡ take w l ++ (take (w * n) (drop w l) ++ x) = rw (e, take-add w (w * n) l) (append-assoc (take w l) (take (w * n) (drop w l)) x) in
+    let f : length (take w l) ≡ w = length-take-le w l (omega (arith, e)) in
+    let rest = take (w * n) (drop w l) ++ x in
+    ap (rowsOf w (suc n)) s
+    ∙ ap₂ (λ (r : List ℕ) (rs : List (List ℕ)). r ∷ rs) (take-at (take w l) rest w f)
+    (ap (rowsOf w n) (drop-at (take w l) rest w f) ∙ rows-front w n (drop w l) x (simp length-drop (omega (arith, e))))
 
 -- a row stored after n rows is the last of n + 1 rows
-pub rows-put : (n : ℕ) (l row : List ℕ) → 16 * n + 16 ≤ length l → length row ≡ 16 → rowsOf 16 (n + 1) (put l (16 * n) row) ≡ rowsOf 16 n l ++ (row ∷ [])
-rows-put n l row h s =
-    let after = row ++ drop (16 * n + length row) l in
-    let f : length (take (16 * n) l) ≡ 16 * n = length-take-le (16 * n) l (omega arith) in
-    let last : take 16 (drop (16 * n) (put l (16 * n) row)) ≡ row = ap (take 16) (drop-at (take (16 * n) l) after (16 * n) f) ∙ take-at row (drop (16 * n + length row) l) 16 s in
-    rw (add-one n) (rows-snoc n (put l (16 * n) row))
-    ∙ ap₂ (λ (rs : List (List ℕ)) (r : List ℕ). rs ++ (r ∷ [])) (rows-front n l after (omega arith)) last
+pub rows-put : (w n : ℕ) (l row : List ℕ) → w * n + w ≤ length l → length row ≡ w → rowsOf w (n + 1) (put l (w * n) row) ≡ rowsOf w n l ++ (row ∷ [])
+rows-put w n l row h s =
+    let after = row ++ drop (w * n + length row) l in
+    let f : length (take (w * n) l) ≡ w * n = length-take-le (w * n) l (omega arith) in
+    let last : take w (drop (w * n) (put l (w * n) row)) ≡ row = ap (take w) (drop-at (take (w * n) l) after (w * n) f) ∙ take-at row (drop (w * n + length row) l) w s in
+    rw (add-one n) (rows-snoc w n (put l (w * n) row))
+    ∙ ap₂ (λ (rs : List (List ℕ)) (r : List ℕ). rs ++ (r ∷ [])) (rows-front w n l after (omega arith)) last
 
 pub length-put : (l : List ℕ) (at : ℕ) (row : List ℕ) → at + length row ≤ length l → length (put l at row) ≡ length l
 length-put l at row h =
@@ -150,3 +158,30 @@ module _ (l new : List ℕ) (base size : ℕ) (fits : base + size ≤ length l) 
 -- what a slice holds once its part of size numbers from base on, which a callee left as new, has come back
 pub lent-back : (base size : ℕ) (l new : List ℕ) → putMid base (base + size - base) l new ≡ take base l ++ (new ++ drop (base + size) l)
 lent-back base size l new = ap (λ (z : List ℕ). take base l ++ (new ++ z)) (post-is base (base + size) l (omega arith))
+
+-- a row that was copied into the part that it was lent
+pub lent-row : (base : ℕ) (l row : List ℕ) {new : List ℕ} → new ≡ row → putMid base (base + length row - base) l new ≡ put l base row
+lent-row base l row {new} e = lent-back base (length row) l new ∙ ap (λ (x : List ℕ). take base l ++ (x ++ drop (base + length row) l)) e
+
+-- a room whose first n numbers were lent, and came back as rows
+module _ (n : ℕ) (l rows : List ℕ) {new : List ℕ} (same : new ≡ rows) (long : length rows ≡ n) where
+  pub lent-front : take (n - 0) (drop 0 (putMid 0 (n - 0) l new)) ≡ rows
+  lent-front = take-at new (drop (n - 0) l) (n - 0) (ap length same ∙ long ∙ sym (sub-zero n)) ∙ same
+
+  pub front-long : length (take (n - 0) (drop 0 (putMid 0 (n - 0) l new))) ≡ n
+  front-long = ap length lent-front ∙ long
+
+  pub front-room : n ≤ length (putMid 0 (n - 0) l new)
+  front-room = rw (length-append new (drop (n - 0) l)) (omega (arith, ap length same))
+
+-- a part of a part
+pub part-of-part : (n a m : ℕ) (l : List ℕ) → a + n ≤ m → take n (drop a (take m l)) ≡ take n (drop a l)
+part-of-part n zero m l h = take-take n m l (omega arith)
+part-of-part n (suc a) zero l h = absurd (omega arith)
+part-of-part n (suc a) (suc m) [] h = refl
+part-of-part n (suc a) (suc m) (x ∷ l) h = part-of-part n a m l (omega arith)
+
+-- a row of one chunk, looked for by the chunk
+pub one-chunk : (count : ℕ) (part row : List ℕ) {chunk : List ℕ} {found : Bool} → length row ≡ 16 → chunk ≡ take 16 (drop 0 row)
+    → found ≡ mem sameList chunk (rowsOf 16 count part) → found ≡ mem sameList row (rowsOf (length row) count part)
+one-chunk count part row e q r = r ∙ ap₂ (λ (x : List ℕ) (w : ℕ). mem sameList x (rowsOf w count part)) (q ∙ take-all 16 row (omega arith)) (sym e)

@@ -4,9 +4,12 @@ use Rattle.runs.proofs.Walking.{_≡_, ℕ, List, [], _∷_, URA, fullS
 use Rattle.runs.proofs.Walking.{Heap, Atoms, sem, Given, ‵, later, _$_, _∵_, !, qed, move, keep, use1, use3, fsplit, fjoin, fpick, fpack, await, updating, at-once}
 use Rattle.runs.proofs.Walking.{check, done, by, Body, RattleType, Is, shows, mem, cellAt, partOf, RefT, LentRef, lends-ref, ref-back, owned, peeks, spelt}
 use denote.Struct.Laws as LL
-use Rattle.cache.specs.Cache.{wide}
+use Rattle.cache.specs.Shape.{shaped}
 use Rattle.cache.specs.References.{numbers}
 use Rattle.cache.specs.declared.blocks.MemoryBlock.{MemoryBlock}
+use Rattle.cache.specs.declared.blocks.CacheShape.{CacheShape}
+use Rattle.cache.proofs.blocks.CacheShape as S
+use Rattle.cache.proofs.blocks.CacheShape.Laws as S′
 use Rattle.model.specs.Runs.{ownReferences}
 use Rattle.runs.specs.Running.{held, withOwn}
 use Rattle.runs.specs.declared.replay_cache.ReplayCache.{ReplayCache}
@@ -23,21 +26,31 @@ mach h = LL.val T.the-type T′.the-laws h
 abbrev pub Good : ReplayCache → Type 0
 Good h = Is R h (mach h ∷ [])
 
+-- a shape's machine value, and what says that it is one
+abbrev pub shapeVal : CacheShape → Val
+shapeVal shape = LL.val S.the-type S′.the-laws shape
+
+abbrev pub ShapeIs : CacheShape → Type 0
+ShapeIs shape = Is S.the-row shape (shapeVal shape ∷ [])
+
 -- a reference to the cache at (b, o) under the name δ
 abbrev pub at-cell : ℕ → ℕ → GName → ReplayCache → RefT ReplayCache
 at-cell b o δ h = record { ptr = (b, o); name = δ; now = h }
 
 -- r is h after one reference
-abbrev pub After : ReplayCache → MemoryBlock → ℕ → ReplayCache → Type 0
-After h m n r = held r ≡ withOwn (wide 16 n) (held h) (m .0)
+abbrev pub After : ReplayCache → MemoryBlock → CacheShape → ReplayCache → Type 0
+After h m shape r = held r ≡ withOwn (shaped 32 shape) (held h) (m .0)
 
 -- r is h after all references of the bytes
-abbrev pub AfterAll : ReplayCache → List ℕ → ℕ → ReplayCache → Type 0
-AfterAll h bytes n r = held r ≡ ownReferences (wide 16 n) (held h) (numbers bytes)
+abbrev pub AfterAll : ReplayCache → List ℕ → CacheShape → ReplayCache → Type 0
+AfterAll h bytes shape r = held r ≡ ownReferences (shaped 32 shape) (held h) (numbers bytes)
 
 module _ {M : Type 1} (𝓤 : URA M) (H : Heap 𝓤) (A : Atoms 𝓤) (W : Given 𝓤 H A) where
   pub typed : (h : ReplayCache) {v : Val} → Is R h (v ∷ []) → Holds (hasTy T′.mir v) × WT v
   typed h good = LL.lawful T.the-type T′.the-laws 𝓤 H A W .typed h _ good .0
+
+  pub shape-typed : (shape : CacheShape) → ShapeIs shape → Holds (hasTy S′.mir (shapeVal shape)) × WT (shapeVal shape)
+  shape-typed shape is = LL.lawful S.the-type S′.the-laws 𝓤 H A W .typed shape _ is .0
 
   module _ (κ : Lft) (b : ℕ) where
     pub lends-local : (ℓ : Lifetime) (h : ReplayCache) → Good h → ent 𝓤 (sem 𝓤 H A (fat fullShare T′.mir b 0 (mach h))) (H .⇛ (ex 𝓤 (LentRef 𝓤 H A W R ℓ κ h b 0)))

@@ -5,3 +5,4 @@ pub mod CacheLaws
 pub mod RunLaws
 pub mod Walking
 pub mod LentCache
+pub mod LentRow

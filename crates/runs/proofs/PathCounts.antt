@@ -11,17 +11,17 @@ use Rattle.cache.specs.Cache.{Cache, hits, withReferences}
 use Rattle.cache.proofs.Rows.{withReferences-append}
 use Rattle.model.specs.Lists.{Each}
 use Rattle.model.specs.Tasks.{Block, Task, block, references}
-use Rattle.model.specs.Runs.{Kept, ownReferences}
+use Rattle.model.specs.Runs.{RowCount, ownReferences}
 use Rattle.body.specs.Layout.{BlockInBounds, InBounds}
 use Rattle.runs.specs.Running.{withOwn, ownPath}
 
 -- ---- the row
 
-own-row : (k : Cache) (ms : List ℕ) (s : Kept) → ownReferences k s ms .row ≡ withReferences k (s .row) ms
+own-row : (k : Cache) (ms : List ℕ) (s : RowCount) → ownReferences k s ms .row ≡ withReferences k (s .row) ms
 own-row k [] s = refl
 own-row k (m ∷ ms) s = own-row k ms (withOwn k s m)
 
-pub path-row : (k : Cache) (t : Task) (p : List ℕ) (s : Kept) → ownPath k t s p .row ≡ withReferences k (s .row) (references t p)
+pub path-row : (k : Cache) (t : Task) (p : List ℕ) (s : RowCount) → ownPath k t s p .row ≡ withReferences k (s .row) (references t p)
 path-row k t [] s = refl
 path-row k t (b ∷ p) s =
     path-row k t p (ownReferences k s (block t b .references))
@@ -34,7 +34,7 @@ at-most-one : (b : Bool) → bit (not b) ≤ 1
 at-most-one true = omega arith
 at-most-one false = omega arith
 
-pub own-bound : (k : Cache) (ms : List ℕ) (s : Kept) → ownReferences k s ms .count ≤ s .count + length ms
+pub own-bound : (k : Cache) (ms : List ℕ) (s : RowCount) → ownReferences k s ms .count ≤ s .count + length ms
 own-bound k [] s = omega arith
 own-bound k (m ∷ ms) s = omega (arith, own-bound k ms (withOwn k s m), at-most-one (hits k (s .row) m))
 
@@ -46,7 +46,7 @@ few-references t h b = go t (h .each) b
     go (x ∷ u) e zero = e .0 .references
     go (x ∷ u) e (suc b) = go u (e .1) b
 
-pub path-bound : (k : Cache) (t : Task) → InBounds t → (p : List ℕ) (s : Kept) → ownPath k t s p .count ≤ s .count + 16 * length p
+pub path-bound : (k : Cache) (t : Task) → InBounds t → (p : List ℕ) (s : RowCount) → ownPath k t s p .count ≤ s .count + 16 * length p
 path-bound k t h [] s = omega arith
 path-bound k t h (b ∷ p) s =
     omega (arith, path-bound k t h p (ownReferences k s (block t b .references)), own-bound k (block t b .references) s, few-references t h b)

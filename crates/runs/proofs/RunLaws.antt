@@ -1,6 +1,6 @@
 -- The references of a path in the code's words: a turn of the loop over its blocks.
 -- The idea: what is left of the path, run from here, gives what the whole path gives from the start.
-use mathlib.Core.Path.{_≡_, sym, ap, _∙_}
+use mathlib.Core.Path.{_≡_, refl, sym, ap, _∙_}
 use mathlib.Core.Bool.{true}
 use mathlib.Core.List.{List, [], _∷_}
 use Prim.Native.Nat.{ℕ, zero, suc, _+_, _/_, _≤_, _<_}
@@ -11,15 +11,15 @@ use lib.ListN.{length, getD, drop, drop-of-length-le}
 use lib.Seq.{drop-cons}
 use Rattle.cache.specs.References.{All, numbers}
 use Rattle.cache.specs.Cache.{Cache}
-use Rattle.cache.proofs.Numbers.{length-numbers}
+use Rattle.cache.proofs.NumberLaws.{length-numbers}
 use Rattle.model.specs.Tasks.{Block, Task, block}
-use Rattle.model.specs.Runs.{Kept, ownReferences}
+use Rattle.model.specs.Runs.{RowCount, ownReferences}
 use Rattle.body.specs.Layout.{InBounds}
 use Rattle.body.specs.Decode.{decode, taskOf}
 use Rattle.body.specs.Walk.{keptOf, startsOf}
 use Rattle.body.proofs.Decoded.{decoded-bounds}
 use Rattle.body.proofs.WalksParts.{BlockParts, kept-decoded, walked-parts}
-use Rattle.runs.specs.Running.{kept, ownPath}
+use Rattle.runs.specs.Running.{rowCount, ownPath}
 use Rattle.runs.proofs.PathCounts.{own-bound, few-references}
 
 pub all-at : (P : ℕ → Type 0) (l : List ℕ) → All P l → (i : ℕ) → i < length l → P (getD l i 0)
@@ -41,17 +41,23 @@ walked s starts k es =
 pub few-bytes : (t : Task) → InBounds t → (b : ℕ) (bytes : List ℕ) → numbers bytes ≡ block t b .references → length bytes / 2 ≤ 16
 few-bytes t h b bytes e = omega (arith, length-numbers bytes, ap length e, few-references t h b)
 
+-- no bytes are no references, and nothing changes
+pub none-own : (k : Cache) (cells : List ℕ) (old : ℕ) (bytes : List ℕ) → length bytes ≡ 0 → rowCount cells old ≡ ownReferences k (rowCount cells old) (numbers bytes)
+unfolding numbers
+none-own k cells old [] e = refl
+none-own k cells old (x ∷ bytes) e = absurd (omega arith)
+
 module _ (k : Cache) (t : Task) (path : List ℕ) (i : ℕ) (cells : List ℕ) (old : ℕ) where
   pub path-turn : (bytes : List ℕ) {b : ℕ} {next : List ℕ} {new : ℕ} → i < length path → b ≡ getD path i 0 → numbers bytes ≡ block t b .references
-      → kept next new ≡ ownReferences k (kept cells old) (numbers bytes) → ownPath k t (kept next new) (drop (i + 1) path) ≡ ownPath k t (kept cells old) (drop i path)
+      → rowCount next new ≡ ownReferences k (rowCount cells old) (numbers bytes) → ownPath k t (rowCount next new) (drop (i + 1) path) ≡ ownPath k t (rowCount cells old) (drop i path)
   path-turn bytes h eb er en =
-      ap (λ (x : Kept). ownPath k t x (drop (i + 1) path)) (en ∙ ap (ownReferences k (kept cells old)) (er ∙ ap (λ b. block t b .references) eb))
-      ∙ ap (ownPath k t (kept cells old)) (sym (drop-cons path i 0 h ∙ ap (λ j. getD path i 0 ∷ drop j path) (sym (add-one i))))
+      ap (λ (x : RowCount). ownPath k t x (drop (i + 1) path)) (en ∙ ap (ownReferences k (rowCount cells old)) (er ∙ ap (λ b. block t b .references) eb))
+      ∙ ap (ownPath k t (rowCount cells old)) (sym (drop-cons path i 0 h ∙ ap (λ j. getD path i 0 ∷ drop j path) (sym (add-one i))))
 
-  pub path-end : length path ≤ i → kept cells old ≡ ownPath k t (kept cells old) (drop i path)
-  path-end h = ap (ownPath k t (kept cells old)) (sym (drop-of-length-le path {i = i} h))
+  pub path-end : length path ≤ i → rowCount cells old ≡ ownPath k t (rowCount cells old) (drop i path)
+  path-end h = ap (ownPath k t (rowCount cells old)) (sym (drop-of-length-le path {i = i} h))
 
-  pub block-adds : InBounds t → (b : ℕ) (bytes : List ℕ) {next : List ℕ} {new : ℕ} → numbers bytes ≡ block t b .references → kept next new ≡ ownReferences k (kept cells old) (numbers bytes)
+  pub block-adds : InBounds t → (b : ℕ) (bytes : List ℕ) {next : List ℕ} {new : ℕ} → numbers bytes ≡ block t b .references → rowCount next new ≡ ownReferences k (rowCount cells old) (numbers bytes)
       → new ≤ old + 16
   block-adds h b bytes er en =
-      omega (arith, ap (λ (x : Kept). x .count) en, own-bound k (numbers bytes) (kept cells old), ap length er, few-references t h b)
+      omega (arith, ap (λ (x : RowCount). x .count) en, own-bound k (numbers bytes) (rowCount cells old), ap length er, few-references t h b)

@@ -11,7 +11,7 @@ use borrow.Author.Tests.{eqb-true, eqb-false, eq-eqb, ne-eqb}
 use Rattle.cache.specs.Cache.{Cache}
 use Rattle.model.specs.Lists.{Each}
 use Rattle.model.specs.Tasks.{Block, Task, block}
-use Rattle.model.specs.Runs.{Preemption, NeverFall, Kept, ownReferences, preempted, preemptedBy, withPoint, positions}
+use Rattle.model.specs.Runs.{Preemption, NeverFall, RowCount, ownReferences, preempted, preemptedBy, withPoint, positions}
 use Rattle.runs.specs.Running.{ownPath}
 
 -- each point is at least i - 1, and they never fall
@@ -42,16 +42,16 @@ none-before (suc i) x xs h r = rw (ne-eqb (x .point) i (λ e. omega arith), none
 
 module _ (k : Cache) (ts : List Task) (t : Task) where
   -- the run from the position i on, whose blocks are p, by its preemptions
-  abbrev pub segments : List Preemption → ℕ → Kept → List ℕ → Kept
+  abbrev pub segments : List Preemption → ℕ → RowCount → List ℕ → RowCount
   segments [] i s p = ownPath k t s p
   segments (x ∷ xs) i s p =
       segments xs (suc (x .point)) (preempted k ts (ownPath k t s (take (suc (x .point) - i) p)) x) (drop (suc (x .point) - i) p)
 
-  quiet : (p : List ℕ) (i : ℕ) (s : Kept) → positions k ts t [] i s p ≡ ownPath k t s p
+  quiet : (p : List ℕ) (i : ℕ) (s : RowCount) → positions k ts t [] i s p ≡ ownPath k t s p
   quiet [] i s = refl
   quiet (b ∷ p) i s = quiet p (suc i) (ownReferences k s (block t b .references))
 
-  past : (x : Preemption) (xs : List Preemption) (p : List ℕ) (i : ℕ) (s : Kept) → x .point < i → positions k ts t (x ∷ xs) i s p ≡ positions k ts t xs i s p
+  past : (x : Preemption) (xs : List Preemption) (p : List ℕ) (i : ℕ) (s : RowCount) → x .point < i → positions k ts t (x ∷ xs) i s p ≡ positions k ts t xs i s p
   past x xs [] i s h = refl
   past x xs (b ∷ p) i s h =
       rw (ne-eqb (x .point) i (λ e. omega arith))
@@ -59,16 +59,16 @@ module _ (k : Cache) (ts : List Task) (t : Task) where
 
   -- at every position, where the path ends at `last`
   abbrev Agrees : List Preemption → Type 0
-  Agrees xs = (i last : ℕ) (s : Kept) (p : List ℕ) → last ≡ i + length p → Rises i xs → Each (λ (x : Preemption). x .point < last) xs
+  Agrees xs = (i last : ℕ) (s : RowCount) (p : List ℕ) → last ≡ i + length p → Rises i xs → Each (λ (x : Preemption). x .point < last) xs
       → segments xs i s p ≡ positions k ts t xs i (preemptedBy k ts s (dueBefore i xs)) p
 
   -- the next preemption lies ahead
-  ahead : (x : Preemption) (xs : List Preemption) → Agrees xs → (p : List ℕ) (i last : ℕ) (s : Kept) → last ≡ i + length p → i ≤ x .point
+  ahead : (x : Preemption) (xs : List Preemption) → Agrees xs → (p : List ℕ) (i last : ℕ) (s : RowCount) → last ≡ i + length p → i ≤ x .point
       → Rises (suc (x .point)) xs → x .point < last → Each (λ (y : Preemption). y .point < last) xs → segments (x ∷ xs) i s p ≡ positions k ts t (x ∷ xs) i s p
   ahead x xs ih [] i last s n l r h e = absurd (omega arith)
   ahead x xs ih (b ∷ p) i last s n l r h e = go (eqb (x .point) i) refl (λ q. ahead x xs ih p (suc i) last own (omega arith) q r h e)
     where
-      own : Kept
+      own : RowCount
       own = ownReferences k s (block t b .references)
 
       go : (c : Bool) → eqb (x .point) i ≡ c → (suc i ≤ x .point → segments (x ∷ xs) (suc i) own p ≡ positions k ts t (x ∷ xs) (suc i) own p)
@@ -85,7 +85,7 @@ module _ (k : Cache) (ts : List Task) (t : Task) where
           rw (m, none-due i (suc (x .point)) xs r (omega arith)) (next on)
 
   agrees : (xs : List Preemption) → Agrees xs
-  agrees [] i last s p n r e = sym (ap (λ (y : Kept). positions k ts t [] i y p) (none i) ∙ quiet p i s)
+  agrees [] i last s p n r e = sym (ap (λ (y : RowCount). positions k ts t [] i y p) (none i) ∙ quiet p i s)
     where
       none : (i : ℕ) → preemptedBy k ts s (dueBefore i []) ≡ s
       none zero = refl
@@ -104,6 +104,6 @@ module _ (k : Cache) (ts : List Task) (t : Task) where
           ahead x xs ih p i last s n l (r .1) (e .0) (e .1)
           ∙ ap (λ (ys : List Preemption). positions k ts t (x ∷ xs) i (preemptedBy k ts s ys) p) (sym (none-before i x xs l (r .1)))
 
-  pub segments-all : (xs : List Preemption) (s : Kept) (path : List ℕ) → NeverFall xs → Each (λ (x : Preemption). x .point < length path) xs
+  pub segments-all : (xs : List Preemption) (s : RowCount) (path : List ℕ) → NeverFall xs → Each (λ (x : Preemption). x .point < length path) xs
       → segments xs 0 s path ≡ positions k ts t xs 0 s path
   segments-all xs s path r e = agrees xs 0 (length path) s path (omega arith) (rises-all xs r) e

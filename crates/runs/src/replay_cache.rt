@@ -1,43 +1,39 @@
 // The replay cache, lent by `&mut` for each reference.
 ghost use mathlib.Core.Path.{_≡_};
-ghost use Prim.Native.Nat.{_+_, _*_, _/_, _^_, _≤_, _<_};
+ghost use Prim.Native.Nat.{_+_, _*_, _/_, _^_, _<_};
 ghost use lib.ListN.{length};
 ghost use Rattle.cache.specs.References.{numberAt, numbers};
-ghost use Rattle.cache.specs.Cache.{wide};
+ghost use Rattle.cache.specs.Shape.{shaped, Holds};
 ghost use Rattle.model.specs.Runs.{ownReferences};
-ghost use Rattle.runs.specs.Running.{held, withOwn};
+ghost use Rattle.runs.specs.Running.{rowCount, held, withOwn};
+use cache::blocks::CacheShape;
 use cache::blocks::MemoryBlock;
 use cache::references::number_at;
 
 // A cache row and the misses so far.
 pub struct ReplayCache {
-    pub cells: [u16; 16],
+    pub cells: [u16; 32],
     pub misses: u32,
 }
 
-// One reference by value, in a cache of n blocks: a miss adds 1.
-pub fn referred(cache: ReplayCache, m: MemoryBlock, n: u8) -> ReplayCache
-    requires { ⌜ (0 < n) × (n ≤ 16) × (cache .misses + 1 < 2 ^ 32) ⌝ }
-    ensures { λ r. ⌜ held r ≡ withOwn (wide 16 n) (held cache) (m .0) ⌝ }
+// One reference on a lent row: a miss adds 1 to the misses so far.
+pub fn referred(cells: &mut [u16; 32], misses: u32, m: MemoryBlock, shape: CacheShape) -> u32
+    requires { ⌜ Holds 32 shape × (misses + 1 < 2 ^ 32) × (length (now cells) ≡ 32) ⌝ }
+    ensures { λ r. ⌜ rowCount (now (cells .exit)) r ≡ withOwn (shaped 32 shape) (rowCount (now (cells .entry)) misses) (m .0) ⌝ }
 {
-    let c = m.cache_block(n).index();
+    let c = m.cache_block(shape).index();
     let v = m.number();
-    let mut cells = cache.cells;
-    let mut misses = cache.misses;
     let old = cells[c];
-    if old != v {
-        misses += 1;
-    }
     cells[c] = v;
-    ReplayCache { cells, misses }
+    if old == v { misses } else { misses + 1 }
 }
 
 // One reference, on a lent cache.
-pub fn refer(cache: &mut ReplayCache, m: MemoryBlock, n: u8)
-    requires { ⌜ (0 < n) × (n ≤ 16) × (now cache .misses + 1 < 2 ^ 32) ⌝ }
-    ensures { λ _. ⌜ held (now (cache .exit)) ≡ withOwn (wide 16 n) (held (now (cache .entry))) (m .0) ⌝ }
+pub fn refer(cache: &mut ReplayCache, m: MemoryBlock, shape: CacheShape)
+    requires { ⌜ Holds 32 shape × (now cache .misses + 1 < 2 ^ 32) ⌝ }
+    ensures { λ _. ⌜ held (now (cache .exit)) ≡ withOwn (shaped 32 shape) (held (now (cache .entry))) (m .0) ⌝ }
 {
-    *cache = referred(*cache, m, n);
+    cache.misses = referred(&mut cache.cells, cache.misses, m, shape);
 }
 
 // The reference numbered i of a list of bytes, two for each.
@@ -49,21 +45,21 @@ pub fn reference_at(references: &[u8], i: usize) -> MemoryBlock
 }
 
 // References in order, two bytes each, on a lent cache.
-pub fn refer_all(references: &[u8], n: u8, cache: &mut ReplayCache)
-    requires { ⌜ (0 < n) × (n ≤ 16) × (now cache .misses + length (now references) / 2 < 2 ^ 32) ⌝ }
-    ensures { λ _. ⌜ held (now (cache .exit)) ≡ ownReferences (wide 16 n) (held (now (cache .entry))) (numbers (now (references .entry))) ⌝ }
+pub fn refer_all(references: &[u8], shape: CacheShape, cache: &mut ReplayCache)
+    requires { ⌜ Holds 32 shape × (now cache .misses + length (now references) / 2 < 2 ^ 32) ⌝ }
+    ensures { λ _. ⌜ held (now (cache .exit)) ≡ ownReferences (shaped 32 shape) (held (now (cache .entry))) (numbers (now (references .entry))) ⌝ }
 {
     for i in 0..references.len() / 2 {
-        refer(cache, reference_at(references, i), n);
+        refer(cache, reference_at(references, i), shape);
     }
 }
 
 // The same for callers that hold the cache by value: a local is lent.
-pub fn after_references(references: &[u8], n: u8, cache: ReplayCache) -> ReplayCache
-    requires { ⌜ (0 < n) × (n ≤ 16) × (cache .misses + length (now references) / 2 < 2 ^ 32) ⌝ }
-    ensures { λ r. ⌜ held r ≡ ownReferences (wide 16 n) (held cache) (numbers (now (references .entry))) ⌝ }
+pub fn after_references(references: &[u8], shape: CacheShape, cache: ReplayCache) -> ReplayCache
+    requires { ⌜ Holds 32 shape × (cache .misses + length (now references) / 2 < 2 ^ 32) ⌝ }
+    ensures { λ r. ⌜ held r ≡ ownReferences (shaped 32 shape) (held cache) (numbers (now (references .entry))) ⌝ }
 {
     let mut lent = cache;
-    refer_all(references, n, &mut lent);
+    refer_all(references, shape, &mut lent);
     lent
 }

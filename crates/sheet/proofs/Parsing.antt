@@ -1,7 +1,7 @@
 -- A sheet parses to a run just where it is the numbers of that run and the run keeps the rules; so check 12 fails just where it does not parse.
 -- The idea: both ways are inductions on the list of preemptions, which carry the point before along.
 use mathlib.Core.Path.{_≡_, refl, sym, ap, ap₂, _∙_}
-use mathlib.Core.Bool.{Bool, true, false, not, _&&_, false≢true}
+use mathlib.Core.Bool.{Bool, true, false, not, _&&_, false≢true, cond}
 use mathlib.Core.List.{List, [], _∷_, _++_}
 use Prim.Native.Nat.{ℕ, zero, suc, _+_, _≤_}
 use native.Mathlib.Omega.{arith}
@@ -13,7 +13,7 @@ use Rattle.model.specs.Lists.{Each}
 use Rattle.model.specs.Runs.{Preemption, NeverFall}
 use Rattle.model.proofs.Membership.{both-left, both-right}
 use Rattle.sheet.specs.Sheet.{SheetRun, preemptionNumbers, sheetNumbers, PathInBounds, PreemptionInRules, InRules, Keeps, Fault12}
-use Rattle.sheet.specs.Parsed.{ParsedList, brokenList, parsedList, withPreemption, pickList, pathTest, preemptionTest, preemptionsFrom, Parsed, broken, parsed, withPath, pickParsed, afterPath, parse, keptSheet, runOf}
+use Rattle.sheet.specs.Parsed.{ParsedList, brokenList, parsedList, withPreemption, pathTest, preemptionTest, preemptionsFrom, Parsed, broken, parsed, withPath, afterPath, parse, keptSheet, runOf}
 
 -- ---- points that never fall, from the point `low` on
 
@@ -153,7 +153,7 @@ list-read t p long (suc left) low (point ∷ by ∷ k ∷ rest) xs e =
     }
 
     go : (b : Bool) (d : ParsedList) → preemptionTest t p long low point by k rest ≡ b → preemptionsFrom t p long left point (drop k rest) ≡ d
-        → pickList b (withPreemption first d) brokenList ≡ parsedList xs
+        → cond b (withPreemption first d) brokenList ≡ parsedList xs
         → ((ys : List Preemption) → preemptionsFrom t p long left point (drop k rest) ≡ parsedList ys → ListRead t p long left point (drop k rest) ys)
         → ListRead t p long (suc left) low (point ∷ by ∷ k ∷ rest) xs
     go false d q g e ih = no-list e
@@ -176,7 +176,7 @@ after-read t p path [] r e = no-run e
 after-read t p path (count ∷ rest) r e = go (leb count 16) (preemptionsFrom t p (length path) count 0 rest) refl refl e
   where
     go : (b : Bool) (d : ParsedList) → leb count 16 ≡ b → preemptionsFrom t p (length path) count 0 rest ≡ d
-        → pickParsed b (withPath p path d) broken ≡ parsed r → AfterRead t p path (count ∷ rest) r
+        → cond b (withPath p path d) broken ≡ parsed r → AfterRead t p path (count ∷ rest) r
     go false d q g e = no-run e
     go true brokenList q g e = no-run e
     go true (parsedList xs) q g e =
@@ -214,7 +214,7 @@ parsed-rules t (p ∷ l ∷ rest) r e = go (ltb p t && pathTest l rest) refl e
           numbers = ap₂ (λ (n : ℕ) (m : List ℕ). p ∷ n ∷ m) (sym (path .long)) (sym (take-append-drop l rest) ∙ ap (λ m. take l rest ++ m) (a .numbers));
         })
 
-    go : (b : Bool) → (ltb p t && pathTest l rest) ≡ b → pickParsed b (afterPath t p (take l rest) (drop l rest)) broken ≡ parsed r → Parses t (p ∷ l ∷ rest) r
+    go : (b : Bool) → (ltb p t && pathTest l rest) ≡ b → cond b (afterPath t p (take l rest) (drop l rest)) broken ≡ parsed r → Parses t (p ∷ l ∷ rest) r
     go false q e = no-run e
     go true q e = found q (after-read t p (take l rest) (drop l rest) r e)
 

@@ -1,7 +1,7 @@
 -- Check 12 in the code's words: a turn of the loop over the preemptions, and the answers of each function.
 -- The idea: what is left of the numbers keeps the rules just where the whole does.
 use mathlib.Core.Path.{_≡_, refl, sym, ap, _∙_}
-use mathlib.Core.Bool.{Bool, true, false, not, _&&_}
+use mathlib.Core.Bool.{Bool, true, false, not, _&&_, cond}
 use mathlib.Core.List.{List, [], _∷_}
 use Prim.Native.Nat.{ℕ, zero, suc, _+_, _-_, _≤_, _<_}
 use native.Mathlib.Numerals.{add-one}
@@ -12,7 +12,7 @@ use lib.Seq.{drop-cons, drop-drop, take-all}
 use borrow.Author.Tests.{eqb-true, eqb-false, eq-eqb, ne-eqb, lt-ltb, le-ltb, le-leb, lt-leb}
 use Rattle.model.specs.Runs.{Preemption}
 use Rattle.model.proofs.Membership.{both-right}
-use Rattle.sheet.specs.Parsed.{ParsedList, brokenList, parsedList, withPreemption, pathTest, preemptionTest, preemptionsFrom, broken, withPath, pickParsed, afterPath, parse, keptList, keptSheet, listTest}
+use Rattle.sheet.specs.Parsed.{ParsedList, brokenList, parsedList, withPreemption, pathTest, preemptionTest, preemptionsFrom, broken, withPath, afterPath, parse, keptList, keptSheet, listTest}
 use Rattle.sheet.proofs.Parsing.{path-there}
 
 -- ---- one preemption, where x and y are the numbers of its point and its task
@@ -146,7 +146,7 @@ after-list t p path [] = refl
 after-list t p path (count ∷ rest) = go (leb count 16)
   where
     go : (b : Bool)
-        → keptSheet (pickParsed b (withPath p path (preemptionsFrom t p (length path) count 0 rest)) broken) ≡ b && keptList (preemptionsFrom t p (length path) count 0 rest)
+        → keptSheet (cond b (withPath p path (preemptionsFrom t p (length path) count 0 rest)) broken) ≡ b && keptList (preemptionsFrom t p (length path) count 0 rest)
     go true = kept-run p path (preemptionsFrom t p (length path) count 0 rest)
     go false = refl
 
@@ -185,7 +185,7 @@ module _ (t : ℕ) (s : List ℕ) {p : ℕ} (long : 2 ≤ length s) (ep : p ≡ 
 
   module _ {l : ℕ} {b : Bool} (h : p < t) (el : l ≡ getD s 1 0) (eb : b ≡ pathTest l (take (length s - 2) (drop 2 s))) where
     whole : (b : Bool) → pathTest (getD s 1 0) (drop 2 s) ≡ b
-        → keptSheet (parse t s) ≡ keptSheet (pickParsed b (afterPath t p (take (getD s 1 0) (drop 2 s)) (drop (getD s 1 0) (drop 2 s))) broken)
+        → keptSheet (parse t s) ≡ keptSheet (cond b (afterPath t p (take (getD s 1 0) (drop 2 s)) (drop (getD s 1 0) (drop 2 s))) broken)
     unfolding parse
     whole b e = ap (λ l. keptSheet (parse t l)) two-heads ∙ rw (lt-ltb p t h, e)
 

@@ -17,8 +17,8 @@ use Rattle.model.specs.Tasks.{Block, Task, block}
 use Rattle.model.proofs.Membership.{all-of}
 use Rattle.body.specs.Layout.{BlockInBounds, InBounds}
 use Rattle.body.specs.Jumps.{jumpSets}
-use Rattle.body.proofs.Passes.{in-set, not-in-set}
-use Rattle.body.proofs.Sweeps.{jump-at}
+use Rattle.cache.proofs.Members.{in-word, out-word}
+use Rattle.body.proofs.JumpLaws.{jump-at}
 use Rattle.sheet.specs.Parsed.{leadsToEnd, completePath, leadsBySets, completeBySets}
 use Rattle.sheet.proofs.RuleLaws.{head}
 
@@ -96,10 +96,10 @@ module _ (sets : List ℕ) (blocks : ℕ) (path : List ℕ) where
 
     module _ (few : blocks ≤ 24) (l : next < blocks) where
       pub step-off : bitAnd (getD sets b 0) (1 * 2 ^ next % 2 ^ 32) ≡ 0 → false ≡ leadsBySets sets blocks b (drop i path)
-      step-off q = sym (on ∙ rw (lt-ltb next blocks l, not-in-set [] blocks next l few (getD sets b 0) q))
+      step-off q = sym (on ∙ rw (lt-ltb next blocks l, out-word 32 (getD sets b 0) next (omega arith) q))
 
       pub step-on : (bitAnd (getD sets b 0) (1 * 2 ^ next % 2 ^ 32) ≡ 0 → ⊥) → leadsBySets sets blocks next (drop (i + 1) path) ≡ leadsBySets sets blocks b (drop i path)
-      step-on q = sym (on ∙ rw (lt-ltb next blocks l, in-set [] blocks next l few (getD sets b 0) q))
+      step-on q = sym (on ∙ rw (lt-ltb next blocks l, in-word 32 (getD sets b 0) next (omega arith) q))
 
   pub path-end : (b i : ℕ) → length path ≤ i → eqb b (blocks - 1) ≡ leadsBySets sets blocks b (drop i path)
   path-end b i l = sym (rw (drop-of-length-le path {i = i} l))

@@ -1,14 +1,14 @@
 -- The run that a sheet is the numbers of, and whether its paths are complete, computed; proofs show that they agree with `Sheet`.
-use mathlib.Core.Bool.{Bool, true, false, not, _&&_}
+use mathlib.Core.Bool.{Bool, true, false, not, _&&_, cond}
 use mathlib.Core.List.{List, [], _∷_}
 use Prim.Native.Nat.{ℕ, zero, suc, _-_}
 use lib.Dec.{eqb, ltb, leb}
 use lib.ListN.{length, getD, take, drop}
 use Rattle.cache.specs.Sets.{inSet}
 use Rattle.model.specs.Lists.{mem}
-use Rattle.model.specs.Tasks.{Block, Task, block, end, task}
+use Rattle.model.specs.Tasks.{Block, Task, Path, block, end, task}
 use Rattle.model.specs.Runs.{Preemption}
-use Rattle.sheet.specs.Sheet.{SheetRun}
+use Rattle.sheet.specs.Sheet.{SheetRun, Sheet}
 
 -- preemptions, or none where the numbers break the rules
 pub data ParsedList : Type 0 where
@@ -18,10 +18,6 @@ pub data ParsedList : Type 0 where
 abbrev pub withPreemption : Preemption → ParsedList → ParsedList
 withPreemption x brokenList = brokenList
 withPreemption x (parsedList xs) = parsedList (x ∷ xs)
-
-abbrev pub pickList : Bool → ParsedList → ParsedList → ParsedList
-pickList true a b = a
-pickList false a b = b
 
 -- a path of k blocks stands at the beginning of `rest`
 abbrev pub pathTest : ℕ → List ℕ → Bool
@@ -39,7 +35,7 @@ preemptionsFrom t p long (suc left) low [] = brokenList
 preemptionsFrom t p long (suc left) low (point ∷ []) = brokenList
 preemptionsFrom t p long (suc left) low (point ∷ by ∷ []) = brokenList
 preemptionsFrom t p long (suc left) low (point ∷ by ∷ k ∷ rest) =
-    pickList (preemptionTest t p long low point by k rest)
+    cond (preemptionTest t p long low point by k rest)
     (withPreemption (record { point = point; by = by; path = take k rest }) (preemptionsFrom t p long left point (drop k rest)))
     brokenList
 
@@ -48,23 +44,19 @@ pub data Parsed : Type 0 where
   broken : Parsed
   parsed : SheetRun → Parsed
 
-abbrev pub withPath : ℕ → List ℕ → ParsedList → Parsed
+abbrev pub withPath : ℕ → Path → ParsedList → Parsed
 withPath p path brokenList = broken
 withPath p path (parsedList xs) = parsed (record { p = p; path = path; preemptions = xs })
 
-abbrev pub pickParsed : Bool → Parsed → Parsed → Parsed
-pickParsed true a b = a
-pickParsed false a b = b
-
 -- the numbers after the path of l blocks of the task p: the count, and the preemptions
-unfoldable pub afterPath : ℕ → ℕ → List ℕ → List ℕ → Parsed
+unfoldable pub afterPath : ℕ → ℕ → Path → List ℕ → Parsed
 afterPath t p path [] = broken
-afterPath t p path (count ∷ rest) = pickParsed (leb count 16) (withPath p path (preemptionsFrom t p (length path) count 0 rest)) broken
+afterPath t p path (count ∷ rest) = cond (leb count 16) (withPath p path (preemptionsFrom t p (length path) count 0 rest)) broken
 
-unfoldable pub parse : ℕ → List ℕ → Parsed
+unfoldable pub parse : ℕ → Sheet → Parsed
 parse t [] = broken
 parse t (p ∷ []) = broken
-parse t (p ∷ l ∷ rest) = pickParsed (ltb p t && pathTest l rest) (afterPath t p (take l rest) (drop l rest)) broken
+parse t (p ∷ l ∷ rest) = cond (ltb p t && pathTest l rest) (afterPath t p (take l rest) (drop l rest)) broken
 
 -- check 12 passes
 abbrev pub keptList : ParsedList → Bool
@@ -88,20 +80,20 @@ runOf (parsed r) = r
 -- ---- complete paths
 
 -- a path from the block b over the blocks of the list to the end block
-abbrev pub leadsToEnd : Task → ℕ → List ℕ → Bool
+abbrev pub leadsToEnd : Task → ℕ → Path → Bool
 leadsToEnd t b [] = ltb b (length t) && eqb b (end t)
 leadsToEnd t b (c ∷ path) = mem eqb c (block t b .successors) && leadsToEnd t c path
 
-abbrev pub completePath : Task → List ℕ → Bool
+abbrev pub completePath : Task → Path → Bool
 completePath t [] = false
 completePath t (b ∷ path) = eqb b 0 && leadsToEnd t b path
 
 -- the same by the set of each block's successors, in a task of this many blocks
-abbrev pub leadsBySets : List ℕ → ℕ → ℕ → List ℕ → Bool
+abbrev pub leadsBySets : List ℕ → ℕ → ℕ → Path → Bool
 leadsBySets sets blocks b [] = eqb b (blocks - 1)
 leadsBySets sets blocks b (c ∷ path) = ltb c blocks && (inSet (getD sets b 0) c && leadsBySets sets blocks c path)
 
-abbrev pub completeBySets : List ℕ → ℕ → List ℕ → Bool
+abbrev pub completeBySets : List ℕ → ℕ → Path → Bool
 completeBySets sets blocks [] = false
 completeBySets sets blocks (b ∷ path) = eqb b 0 && leadsBySets sets blocks b path
 

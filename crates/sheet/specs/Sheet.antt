@@ -6,17 +6,17 @@ use mathlib.Core.List.{List, [], _∷_, _++_}
 use Prim.Native.Nat.{ℕ, _≤_, _<_}
 use lib.ListN.{length}
 use Rattle.model.specs.Lists.{Each}
-use Rattle.model.specs.Tasks.{Task, Complete, task}
+use Rattle.model.specs.Tasks.{Task, Path, Complete, task}
 use Rattle.model.specs.Runs.{Preemption, NeverFall, DisturbedRun}
 
 -- what a run sheet says: task p, its path, and the preemptions
 pub record SheetRun : Type 0 where
   pub p : ℕ
-  pub path : List ℕ
+  pub path : Path
   pub preemptions : List Preemption
 
 -- "path length ..; the blocks"
-abbrev pub pathNumbers : List ℕ → List ℕ
+abbrev pub pathNumbers : Path → List ℕ
 pathNumbers path = length path ∷ path
 
 -- "for each the point .., the task, path length .., the blocks"
@@ -24,12 +24,16 @@ abbrev pub preemptionNumbers : List Preemption → List ℕ
 preemptionNumbers [] = []
 preemptionNumbers (x ∷ xs) = x .point ∷ x .by ∷ (pathNumbers (x .path) ++ preemptionNumbers xs)
 
+-- the numbers of a run sheet
+abbrev pub Sheet : Type 0
+Sheet = List ℕ
+
 -- "a run sheet of two-byte numbers: task p; path length 1 to 64; the blocks; preemption count 0 to 16; for each .."
-abbrev pub sheetNumbers : SheetRun → List ℕ
+abbrev pub sheetNumbers : SheetRun → Sheet
 sheetNumbers r = r .p ∷ (pathNumbers (r .path) ++ (length (r .preemptions) ∷ preemptionNumbers (r .preemptions)))
 
 -- "path length 1 to 64"
-pub record PathInBounds (path : List ℕ) : Type 0 where
+pub record PathInBounds (path : Path) : Type 0 where
   pub some : 1 ≤ length path
   pub few : length path ≤ 64
 
@@ -49,11 +53,11 @@ pub record InRules (t : ℕ) (r : SheetRun) : Type 0 where
   pub rising : NeverFall (r .preemptions)
 
 -- the sheet is the numbers of a run that keeps the rules
-abbrev pub Keeps : ℕ → List ℕ → Type 0
+abbrev pub Keeps : ℕ → Sheet → Type 0
 Keeps t sheet = (r : SheetRun) × InRules t r × (sheet ≡ sheetNumbers r)
 
 -- check 12: "run sheet short or too long, or a length, count, task or point against the rules"
-abbrev pub Fault12 : ℕ → List ℕ → Type 0
+abbrev pub Fault12 : ℕ → Sheet → Type 0
 Fault12 t sheet = Keeps t sheet → ⊥
 
 -- all paths of a run are complete
@@ -62,7 +66,7 @@ pub record AllComplete (ts : List Task) (r : SheetRun) : Type 0 where
   pub each : Each (λ (x : Preemption). Complete (task ts (x .by)) (x .path)) (r .preemptions)
 
 -- check 13: "a path in it isn't complete, or names a block that isn't there", of a sheet that keeps the rules
-abbrev pub Fault13 : List Task → List ℕ → Type 0
+abbrev pub Fault13 : List Task → Sheet → Type 0
 Fault13 ts sheet = (r : SheetRun) × InRules (length ts) r × (sheet ≡ sheetNumbers r) × (AllComplete ts r → ⊥)
 
 -- what a sheet can hold: "path length 1 to 64", "preemption count 0 to 16"

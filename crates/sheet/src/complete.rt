@@ -5,9 +5,9 @@ ghost use Prim.Native.Nat.{_≤_};
 ghost use Rattle.body.specs.Decode.{decode, taskOf};
 ghost use Rattle.body.specs.Walk.{keptOf};
 ghost use Rattle.sheet.specs.Parsed.{completePath, completeBySets};
-use crate::rules::count;
 use body::jumps::jumps;
 use body::walk;
+use cache::numbers::count;
 
 // Whether the path begins in block 0, steps to blocks in the set of the one before and ends in the last of the blocks.
 fn steps_to_end(sets: [u32; 24], blocks: usize, path: &[u16]) -> bool

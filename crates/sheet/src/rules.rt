@@ -3,19 +3,13 @@ ghost use mathlib.Core.Path.{_≡_};
 ghost use Prim.Native.Nat.{_+_, _≤_, _<_};
 ghost use lib.ListN.{length, getD, drop};
 ghost use Rattle.sheet.specs.Parsed.{pathTest, preemptionTest, preemptionsFrom, listTest, parse, keptList, keptSheet};
+use cache::numbers::count;
 
 // The most blocks of a path.
 const BLOCKS: usize = 64;
 
 // The most preemptions.
 const PREEMPTIONS: usize = 16;
-
-// A number of a sheet as a count.
-pub fn count(x: u16) -> usize
-    ensures { λ r. ⌜ (r ≡ x) × (r < 65536) ⌝ }
-{
-    x as usize
-}
 
 // Whether a path of this many blocks can stand at the beginning of the numbers.
 fn path_kept(long: usize, rest: &[u16]) -> bool

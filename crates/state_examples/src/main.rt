@@ -1,4 +1,5 @@
 // Prints the states of tasks: of E, of figure 1's graph, of forks, loops and blocks without references.
+use area::AREA_LENGTH;
 use area::row::row;
 use example_files::E;
 use example_files::END_WITH_SUCCESSORS;
@@ -100,7 +101,7 @@ fn print_refusal(check: u8, task: u8) {
 
 // The states of the first blocks of a task.
 fn show(name: &[u8], file: &[u8], task: usize, blocks: usize, n: usize) {
-    let mut area = [0u16; 24832];
+    let mut area = [0u16; AREA_LENGTH];
     print(name);
     print(b"\n");
     match states(file, task, &mut area) {

@@ -7,6 +7,8 @@ use Prim.Native.Nat.{ℕ, _-_, _≤_, _<_}
 use native.Mathlib.Omega.{arith}
 use lib.ListN.{length, replicate}
 use borrow.Author.Tests.{eq-eqb, ne-eqb, le-leb, lt-leb}
+use Rattle.cache.specs.Shape.{shaped}
+use Rattle.cache.specs.declared.blocks.CacheShape.{CacheShape}
 use Rattle.model.specs.Tasks.{task}
 use Rattle.body.specs.Decode.{decode, taskOf}
 use Rattle.project.specs.declared.answers.Check.the-variants.{Passed}
@@ -19,12 +21,13 @@ use Rattle.project.specs.File.{cacheBlocks, taskCount, bodyOf}
 use Rattle.project.specs.Checklist.{andThen, verdictOf}
 use Rattle.project.specs.Reading.{fileChecks, fileCheck, readingOf}
 use Rattle.project.specs.Bodies.{accepted}
-use Rattle.project.specs.Tasks.{tasksOf}
+use Rattle.project.specs.Tasks.{tasksOf, fileShape, fileCacheIn}
 use Rattle.project.proofs.Checklists.{verdict-append}
 use Rattle.project.proofs.Accepted.{accepted-passed}
 use Rattle.reader.proofs.TaskBodies.{reading, task-body, refused-check}
+use Rattle.rows.specs.Rows.{areaLength}
 use Rattle.graphs.specs.TaskRows.{test11}
-use Rattle.area.specs.Area.{areaLength, areaOf}
+use Rattle.area.specs.Area.{areaOf}
 use Rattle.states.specs.Filling.{askedChecks, taskCheck, fillingOf, areaAfter, BodyStates}
 
 -- the checks after 1: those of the file, and those on the task
@@ -59,16 +62,16 @@ module _ (w : ℕ) (s : List ℕ) (j : ℕ) (area : List ℕ) where
         refused (task-parts w s j ∙ rw (p, le-leb (taskCount s) j (omega arith))) area long q
 
     -- the states of the body of a task, in the area `found`
-    module _ (ok : accepted (readingOf s) ≡ true) (below : j < taskCount s) {n : ℕ} {b : List ℕ} {full : Bool} {found : List ℕ} (same : b ≡ bodyOf s j) (is-n : n ≡ cacheBlocks s)
-        (states : BodyStates w n (taskOf (decode b)) found full) where
+    module _ (ok : accepted (readingOf s) ≡ true) (below : j < taskCount s) {shape : CacheShape} {b : List ℕ} {full : Bool} {found : List ℕ} (same : b ≡ bodyOf s j)
+        (is : shape ≡ fileShape s) (states : BodyStates (shaped w shape) (taskOf (decode b)) found full) where
       passed : fileCheck s ≡ Passed
       passed = accepted-passed s (cacheBlocks s) (taskCount s) (reading s ok) .0
 
       its : taskOf (decode b) ≡ task (tasksOf s) j
       its = ap (λ (x : List ℕ). taskOf (decode x)) same ∙ sym (task-body s ok j below .same)
 
-      told : full ≡ test11 w (cacheBlocks s) (task (tasksOf s) j)
-      told = states .answer ∙ (rw (is-n, its))
+      told : full ≡ test11 (fileCacheIn w s) (task (tasksOf s) j)
+      told = states .answer ∙ (rw (is, its))
 
       pub too-many : full ≡ true → {new : List ℕ} {answer : Filling} → (answer ≡ Refused 11 j) × (new ≡ replicate (length found) 0) → Ends answer new
       too-many f q = refused (task-parts w s j ∙ rw (passed, lt-leb (taskCount s) j below, ← told, f)) found (states .long) q
@@ -77,5 +80,5 @@ module _ (w : ℕ) (s : List ℕ) (j : ℕ) (area : List ℕ) where
       unfolding fillingOf areaAfter
       task-filled f =
           let e : taskCheck w s j ≡ Passed = task-parts w s j ∙ rw (passed, lt-leb (taskCount s) j below, ← told, f) in
-          let g : found ≡ areaOf w (cacheBlocks s) (task (tasksOf s) j) = rw (is-n, its) at (states .filled f) in
+          let g : found ≡ areaOf (fileCacheIn w s) (task (tasksOf s) j) = rw (is, its) at (states .filled f) in
           (rw (eq-eqb (length area) (areaLength w) long, e), g ∙ (rw (eq-eqb (length area) (areaLength w) long, e)))

@@ -9,21 +9,20 @@ use native.Mathlib.Omega.{arith}
 use lib.Dec.{leb, ltb}
 use lib.ListN.{length}
 use borrow.Author.Tests.{leb-true, le-leb, ltb-true, ltb-false}
-use Rattle.cache.specs.Cache.{direct}
 use Rattle.model.specs.Tasks.{task}
 use Rattle.model.specs.States.{Fault11}
 use Rattle.project.specs.File.{cacheBlocks, taskCount}
 use Rattle.project.specs.Checklist.{AllPass, numbers, Agreeing}
 use Rattle.project.specs.Reading.{fileChecks}
-use Rattle.project.specs.Tasks.{tasksOf}
+use Rattle.project.specs.Tasks.{tasksOf, fileCacheIn, fileCache}
 use Rattle.project.specs.Verdict.{FillingVerdict}
 use Rattle.project.proofs.Checklists.{passed-computed, agreeing-append}
 use Rattle.project.proofs.TaskFaults.{Bytes}
 use Rattle.project.proofs.Verdicts.{differ-exact, file-agreeing, filling-verdict}
 use Rattle.reader.proofs.TaskBodies.{passing-accepted, task-body, task-bounds}
+use Rattle.rows.specs.Rows.{areaLength}
 use Rattle.graphs.specs.TaskRows.{test11}
 use Rattle.graphs.proofs.TooMany.{test11-exact}
-use Rattle.area.specs.Area.{areaLength}
 use Rattle.states.specs.Filling.{Fault15, askedChecks, statesChecks, fillingOf}
 
 exact15 : (s : List ℕ) (j : ℕ) → (leb (taskCount s) j ≡ true) ↔ Fault15 s j
@@ -35,7 +34,7 @@ exact15 s j = (λ e l. omega (arith, leb-true (taskCount s) j e), λ f. go f (lt
 
 module _ (w : ℕ) (wide-enough : 16 ≤ w) (s : List ℕ) (h : Bytes s) (j : ℕ) (area : List ℕ) where
   -- check 11 of a task of an accepted file
-  exact11 : AllPass (fileChecks s) → (Fault15 s j → ⊥) → (test11 w (cacheBlocks s) (task (tasksOf s) j) ≡ true) ↔ Fault11 (direct (cacheBlocks s)) (task (tasksOf s) j)
+  exact11 : AllPass (fileChecks s) → (Fault15 s j → ⊥) → (test11 (fileCacheIn w s) (task (tasksOf s) j) ≡ true) ↔ Fault11 (fileCache s) (task (tasksOf s) j)
   exact11 all below =
       let ok = passing-accepted s (passed-computed (fileChecks s) (file-agreeing s h) all) in
       let l : j < taskCount s = there (ltb j (taskCount s)) refl in

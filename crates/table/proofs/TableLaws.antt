@@ -13,92 +13,87 @@ use lib.ListN.{length, getD, set, take, drop, replicate, length-set, length-repl
 use lib.Seq.{getD-set-same, getD-set-other, ext-getD, drop-cons, getD-append-add, getD-take, getD-drop, length-take-le}
 use borrow.Author.Tests.{eqb-true, eqb-false, ltb-true, ltb-false, lt-ltb, le-ltb, ne-eqb}
 use borrow.Rule.Slice.PartMut.{putMid}
-use Rattle.cache.specs.Cache.{wide}
+use Rattle.cache.specs.Cache.{Cache, direct, rowFrom}
+use Rattle.cache.specs.Shape.{shaped, Holds}
+use Rattle.cache.specs.declared.blocks.CacheShape.{CacheShape}
+use Rattle.cache.proofs.Rows.{length-rowFrom, rowFrom-at}
 use Rattle.model.specs.Tasks.{Task, task}
-use Rattle.model.specs.Computed.{reaching, living}
+use Rattle.model.specs.Computed.{reaching, living, pairNumber}
 use Rattle.model.proofs.Membership.{eqb-self}
+use Rattle.model.proofs.Width.{pair-width}
 use Rattle.project.specs.declared.answers.Check.{Check}
 use Rattle.project.specs.declared.answers.Check.the-variants.{Passed}
 use Rattle.project.specs.declared.answers.Check.the-variants.{Refused as Failed}
-use Rattle.project.specs.File.{cacheBlocks, taskCount}
-use Rattle.project.specs.Tasks.{tasksOf}
+use Rattle.project.specs.File.{taskCount}
+use Rattle.project.specs.Tasks.{tasksOf, fileShape, fileCache}
 use Rattle.project.proofs.Accepted.{or-false-left}
 use Rattle.reader.proofs.TaskBodies.{tasks-long}
 use Rattle.rows.proofs.Parts.{replaced-length, before-it, inside-it, after-it, lent-back}
 use Rattle.gather.specs.Graph.{tooMany}
 use Rattle.graphs.specs.TaskRows.{test11}
-use Rattle.table.specs.Table.{firstFull, entryOf, rowFrom, rowsFrom, tableOf}
+use Rattle.table.specs.Table.{firstFull, entryOf, rowsFrom, tableOf}
 use Rattle.table.specs.Found.{Few, NumbersFound}
+use Rattle.table.proofs.UsedLaws.{getD-zeros}
 
 -- ---- the places of a table
 
-row-long : (f : ℕ → ℕ → ℕ) (i left j : ℕ) → length (rowFrom f i left j) ≡ left
-row-long f i zero j = refl
-row-long f i (suc left) j = ap suc (row-long f i left (suc j))
-
-row-at : (f : ℕ → ℕ → ℕ) (i left j k : ℕ) → k < left → getD (rowFrom f i left j) k 0 ≡ f i (j + k)
-row-at f i zero j k l = absurd (not-suc-le-zero l)
-row-at f i (suc left) j zero l = ap (f i) (sym (add-zero j))
-row-at f i (suc left) j (suc k) l = let e : suc j + k ≡ j + suc k = omega arith in row-at f i left (suc j) k (omega arith) ∙ ap (f i) e
-
 rows-long : (f : ℕ → ℕ → ℕ) (left i : ℕ) → length (rowsFrom f left i) ≡ 8 * left
 rows-long f zero i = omega arith
-rows-long f (suc left) i = rw (length-append (rowFrom f i 8 0) (rowsFrom f left (suc i)), row-long f i 8 0, rows-long f left (suc i)) (omega arith)
+rows-long f (suc left) i = rw (length-append (rowFrom 0 8 (f i)) (rowsFrom f left (suc i)), length-rowFrom 8 0 (f i), rows-long f left (suc i)) (omega arith)
 
 -- place 8 k + j of the rows from row i on
 pub place-at : (f : ℕ → ℕ → ℕ) (left i k j : ℕ) → k < left → j < 8 → getD (rowsFrom f left i) (8 * k + j) 0 ≡ f (i + k) j
 place-at f zero i k j l h = absurd (not-suc-le-zero l)
 place-at f (suc left) i zero j l h =
     let e : 8 * 0 + j ≡ j = omega arith in
-    rw e (List·getD-append (rowFrom f i 8 0) (rowsFrom f left (suc i)) 0 j (rw (row-long f i 8 0) h) ∙ row-at f i 8 0 j h ∙ ap₂ f (sym (add-zero i)) (omega arith))
+    rw e (List·getD-append (rowFrom 0 8 (f i)) (rowsFrom f left (suc i)) 0 j (rw (length-rowFrom 8 0 (f i)) h) ∙ rowFrom-at 8 0 j 0 (f i) h ∙ ap₂ f (sym (add-zero i)) (omega arith))
 place-at f (suc left) i (suc k) j l h =
-    let e : 8 * suc k + j ≡ length (rowFrom f i 8 0) + (8 * k + j) = rw (row-long f i 8 0) (omega arith) in
+    let e : 8 * suc k + j ≡ length (rowFrom 0 8 (f i)) + (8 * k + j) = rw (length-rowFrom 8 0 (f i)) (omega arith) in
     let z : suc i + k ≡ i + suc k = omega arith in
-    rw e (getD-append-add (rowFrom f i 8 0) (rowsFrom f left (suc i)) (8 * k + j) 0 ∙ place-at f left (suc i) k j (omega arith) h ∙ ap (λ (x : ℕ). f x j) z)
+    rw e (getD-append-add (rowFrom 0 8 (f i)) (rowsFrom f left (suc i)) (8 * k + j) 0 ∙ place-at f left (suc i) k j (omega arith) h ∙ ap (λ (x : ℕ). f x j) z)
 
 pub table-long : (s : List ℕ) → length (tableOf s) ≡ 64
 unfolding tableOf
 table-long s = rows-long (entryOf s) 8 0
 
--- ---- while the table is filled
+-- ---- while the table is filled, by what a cache c counts: the rows of c may be wider than the file's cache
 
-pub record SoFar (s : List ℕ) (n i : ℕ) (numbers : List ℕ) : Type 0 where
+-- rows of w places that hold the file's cache count its pair numbers
+pub file-pairs : (w : ℕ) {shape : CacheShape} (s : List ℕ) → shape ≡ fileShape s → Holds w shape → (a b : Task) → pairNumber (shaped w shape) a b ≡ pairNumber (fileCache s) a b
+file-pairs w {shape} s e h a b = pair-width (shape .blocks) w (h .some) (h .room) a b ∙ ap (λ (x : CacheShape). pairNumber (direct (x .blocks)) a b) e
+
+pub record SoFar (s : List ℕ) (c : Cache) (i : ℕ) (numbers : List ℕ) : Type 0 where
   pub long : length numbers ≡ 64
-  pub left : firstFull 16 n i (drop i (tasksOf s)) ≡ firstFull 16 n 0 (tasksOf s)
-  pub passed : (k : ℕ) → k < i → test11 16 n (task (tasksOf s) k) ≡ false
-  pub rows : (k j : ℕ) → k < i → j < 8 → (j < taskCount s → Few n (task (tasksOf s) j)) → getD numbers (8 * k + j) 0 ≡ entryOf s k j
+  pub left : firstFull c i (drop i (tasksOf s)) ≡ firstFull c 0 (tasksOf s)
+  pub passed : (k : ℕ) → k < i → test11 c (task (tasksOf s) k) ≡ false
+  pub rows : (k j : ℕ) → k < i → j < 8 → (j < taskCount s → Few c (task (tasksOf s) j)) → getD numbers (8 * k + j) 0 ≡ entryOf s k j
   pub rest : (x : ℕ) → 8 * i ≤ x → getD numbers x 0 ≡ 0
 
-zeros : (k i : ℕ) → getD {A = ℕ} (replicate k 0) i 0 ≡ 0
-zeros zero i = refl
-zeros (suc k) zero = refl
-zeros (suc k) (suc i) = zeros k i
-
-pub at-first : (s : List ℕ) (n : ℕ) {numbers : List ℕ} → numbers ≡ replicate 64 0 → SoFar s n 0 numbers
-at-first s n z =
+pub at-first : (s : List ℕ) (c : Cache) {numbers : List ℕ} → numbers ≡ replicate 64 0 → SoFar s c 0 numbers
+at-first s c z =
     record {
       long = ap length z ∙ length-replicate {A = ℕ} 64 0;
       left = refl;
       passed = λ k l. absurd (not-suc-le-zero l);
       rows = λ k j l. absurd (not-suc-le-zero l);
-      rest = λ x l. rw z (zeros 64 x);
+      rest = λ x l. rw z (getD-zeros 64 x);
     }
 
 -- what was found, in other words
-pub found-as : {n tasks count : ℕ} {ts : List Task} {u v : Task} {numbers : List ℕ} {full : Bool} → tasks ≡ count → u ≡ v → NumbersFound n ts tasks u numbers full → NumbersFound n ts count v numbers full
+pub found-as : {c : Cache} {tasks count : ℕ} {ts : List Task} {u v : Task} {numbers : List ℕ} {full : Bool} → tasks ≡ count → u ≡ v → NumbersFound c ts tasks u numbers full → NumbersFound c ts count v numbers full
 found-as e f h = rw (← e, ← f) h
 
-module _ (s : List ℕ) (n i : ℕ) (same : n ≡ cacheBlocks s) (below : i < taskCount s) (few : taskCount s ≤ 8) (numbers : List ℕ) (h : SoFar s n i numbers) where
+module _ (s : List ℕ) (c : Cache) (i : ℕ) (same : (a b : Task) → pairNumber c a b ≡ pairNumber (fileCache s) a b) (below : i < taskCount s) (few : taskCount s ≤ 8) (numbers : List ℕ) (h : SoFar s c i numbers) where
   abbrev t : Task
   t = task (tasksOf s) i
 
-  next : firstFull 16 n i (drop i (tasksOf s)) ≡ cond (test11 16 n t) (Failed 11 i) (firstFull 16 n (i + 1) (drop (i + 1) (tasksOf s)))
+  next : firstFull c i (drop i (tasksOf s)) ≡ cond (test11 c t) (Failed 11 i) (firstFull c (i + 1) (drop (i + 1) (tasksOf s)))
   next =
-      ap (firstFull 16 n i) (drop-cons (tasksOf s) i [] (rw (tasks-long s) below))
-      ∙ ap (λ (k : ℕ). cond (test11 16 n t) (Failed 11 i) (firstFull 16 n k (drop k (tasksOf s)))) (sym (add-one i))
+      ap (firstFull c i) (drop-cons (tasksOf s) i [] (rw (tasks-long s) below))
+      ∙ ap (λ (k : ℕ). cond (test11 c t) (Failed 11 i) (firstFull c k (drop k (tasksOf s)))) (sym (add-one i))
 
   -- a task with too many states is the lowest
-  pub stops : {full : Bool} {byte : ℕ} → full ≡ test11 16 n t → full ≡ true → byte ≡ i → Failed 11 byte ≡ firstFull 16 n 0 (tasksOf s)
+  pub stops : {full : Bool} {byte : ℕ} → full ≡ test11 c t → full ≡ true → byte ≡ i → Failed 11 byte ≡ firstFull c 0 (tasksOf s)
   stops e q z = ap (Failed 11) z ∙ sym (rw (sym e ∙ q) at next) ∙ h .left
 
   fits : 8 * i + 8 ≤ length numbers
@@ -110,7 +105,7 @@ module _ (s : List ℕ) (n i : ℕ) (same : n ≡ cacheBlocks s) (below : i < ta
       let e : 8 * i + 8 - 8 * i ≡ 8 = omega arith in
       rw e
       (ext-getD 0 (take 8 (drop (8 * i) numbers)) (replicate 8 0) (eight ∙ sym (length-replicate {A = ℕ} 8 0))
-      (λ x l. let b : x < 8 = rw eight at l in getD-take 8 (drop (8 * i) numbers) x 0 b ∙ getD-drop (8 * i) numbers x 0 ∙ h .rest (8 * i + x) (omega arith) ∙ sym (zeros 8 x)))
+      (λ x l. let b : x < 8 = rw eight at l in getD-take 8 (drop (8 * i) numbers) x 0 b ∙ getD-drop (8 * i) numbers x 0 ∙ h .rest (8 * i + x) (omega arith) ∙ sym (getD-zeros 8 x)))
     where
       eight : length (take 8 (drop (8 * i) numbers)) ≡ 8
       eight = length-take-le 8 (drop (8 * i) numbers) (rw length-drop (omega (arith, fits)))
@@ -121,7 +116,7 @@ module _ (s : List ℕ) (n i : ℕ) (same : n ≡ cacheBlocks s) (below : i < ta
   pub grown-long : (part : List ℕ) → length part ≡ 8 → length (putMid (8 * i) (8 * i + 8 - 8 * i) numbers part) ≡ 64
   grown-long part e = ap length (back part) ∙ replaced-length numbers part (8 * i) 8 fits e ∙ h .long
 
-  module _ (part : List ℕ) {full : Bool} (new : NumbersFound n (tasksOf s) (taskCount s) t part full) (ok : full ≡ false) where
+  module _ (part : List ℕ) {full : Bool} (new : NumbersFound c (tasksOf s) (taskCount s) t part full) (ok : full ≡ false) where
     abbrev grown : List ℕ
     grown = putMid (8 * i) (8 * i + 8 - 8 * i) numbers part
 
@@ -139,17 +134,17 @@ module _ (s : List ℕ) (n i : ℕ) (same : n ≡ cacheBlocks s) (below : i < ta
         let e : 8 * i + i ≡ 9 * i = omega arith in
         rw (e, getD-set-same grown (9 * i) 0 0 (omega (arith, grown-long part (new .long))), eqb-self i, lt-ltb i (taskCount s) below)
 
-    here : (j : ℕ) → j < 8 → j ≢ i → (j < taskCount s → Few n (task (tasksOf s) j)) → getD more (8 * i + j) 0 ≡ entryOf s i j
+    here : (j : ℕ) → j < 8 → j ≢ i → (j < taskCount s → Few c (task (tasksOf s) j)) → getD more (8 * i + j) 0 ≡ entryOf s i j
     here j b d f =
         other (8 * i + j) (λ e. d (omega arith)) ∙ inside-it numbers part (8 * i) 8 fits (new .long) j b ∙ go (ltb j (taskCount s)) refl
       where
         go : (x : Bool) → ltb j (taskCount s) ≡ x → getD part j 0 ≡ entryOf s i j
         go true e =
-            rw (lt-ltb i (taskCount s) below, e, ne-eqb i j (λ q. d (sym q)), ← same)
-            (new .found ok j (ltb-true j (taskCount s) e) (f (ltb-true j (taskCount s) e)))
+            rw (lt-ltb i (taskCount s) below, e, ne-eqb i j (λ q. d (sym q)))
+            (new .found ok j (ltb-true j (taskCount s) e) (f (ltb-true j (taskCount s) e)) ∙ same t (task (tasksOf s) j))
         go false e = rw (lt-ltb i (taskCount s) below, e) (new .rest ok j (ltb-false j (taskCount s) e))
 
-    row-is : (k j : ℕ) → k < i + 1 → j < 8 → (j < taskCount s → Few n (task (tasksOf s) j)) → getD more (8 * k + j) 0 ≡ entryOf s k j
+    row-is : (k j : ℕ) → k < i + 1 → j < 8 → (j < taskCount s → Few c (task (tasksOf s) j)) → getD more (8 * k + j) 0 ≡ entryOf s k j
     row-is k j l b f = go (eqb k i) refl
       where
         own : (y : Bool) → eqb j i ≡ y → getD more (8 * i + j) 0 ≡ entryOf s i j
@@ -160,7 +155,7 @@ module _ (s : List ℕ) (n i : ℕ) (same : n ≡ cacheBlocks s) (below : i < ta
         go true e = rw (eqb-true k i e) (own (eqb j i) refl)
         go false e = let m : k < i = omega (arith, eqb-false k i e) in earlier k j m b ∙ h .rows k j m b f
 
-    pub turn : SoFar s n (i + 1) more
+    pub turn : SoFar s c (i + 1) more
     turn =
         record {
           long = length-set grown (9 * i) 0 ∙ grown-long part (new .long);
@@ -170,18 +165,18 @@ module _ (s : List ℕ) (n i : ℕ) (same : n ≡ cacheBlocks s) (below : i < ta
           rest = λ x l. other x (λ e. omega arith) ∙ after-it numbers part (8 * i) 8 fits (new .long) x (omega arith) ∙ h .rest x (omega arith);
         }
       where
-        passes : (k : ℕ) → k < i + 1 → (x : Bool) → eqb k i ≡ x → test11 16 n (task (tasksOf s) k) ≡ false
+        passes : (k : ℕ) → k < i + 1 → (x : Bool) → eqb k i ≡ x → test11 c (task (tasksOf s) k) ≡ false
         passes k l true e = rw (eqb-true k i e) (sym (new .answer) ∙ ok)
         passes k l false e = h .passed k (omega (arith, eqb-false k i e))
 
 -- ---- at the end
 
-module _ (s : List ℕ) (n : ℕ) (few : taskCount s ≤ 8) (numbers : List ℕ) (h : SoFar s n (taskCount s) numbers) where
-  pub ends : Passed ≡ firstFull 16 n 0 (tasksOf s)
-  ends = sym (ap (firstFull 16 n (taskCount s)) (drop-of-length-le (tasksOf s) {i = taskCount s} (rw (tasks-long s) (omega arith)))) ∙ h .left
+module _ (s : List ℕ) (c : Cache) (few : taskCount s ≤ 8) (numbers : List ℕ) (h : SoFar s c (taskCount s) numbers) where
+  pub ends : Passed ≡ firstFull c 0 (tasksOf s)
+  ends = sym (ap (firstFull c (taskCount s)) (drop-of-length-le (tasksOf s) {i = taskCount s} (rw (tasks-long s) (omega arith)))) ∙ h .left
 
-  each-few : (j : ℕ) → j < taskCount s → Few n (task (tasksOf s) j)
-  each-few j l = or-false-left (tooMany (reaching (wide 16 n) (task (tasksOf s) j)) 24) (tooMany (living (wide 16 n) (task (tasksOf s) j)) 24) (h .passed j l)
+  each-few : (j : ℕ) → j < taskCount s → Few c (task (tasksOf s) j)
+  each-few j l = or-false-left (tooMany (reaching c (task (tasksOf s) j)) 24) (tooMany (living c (task (tasksOf s) j)) 24) (h .passed j l)
 
   pub whole : numbers ≡ tableOf s
   unfolding tableOf

@@ -12,7 +12,7 @@ use lib.ListN.{length, getD, set, take, drop, replicate, length-set, length-repl
 use lib.Seq.{getD-set-same, getD-set-other, take-take}
 use borrow.Author.Tests.{eqb-true, eqb-false}
 use borrow.Rule.Slice.PartMut.{putMid}
-use Rattle.cache.specs.Cache.{wide}
+use Rattle.cache.specs.Cache.{Cache}
 use Rattle.model.specs.Lists.{mem}
 use Rattle.model.specs.Tasks.{Task, end, task}
 use Rattle.model.specs.Computed.{sameList, sorted, reaching}
@@ -52,54 +52,46 @@ used-sorted l m e v = same-truth (mem eqb v (map usedSet l)) (mem eqb v (map use
 
 -- ---- no block has too many rows
 
-pub counts-few : {all : ℕ → List (List ℕ)} {rows counts : List ℕ} {full : Bool} → KindRows all rows counts full → full ≡ false → (b : ℕ) → b < 24 → getD counts b 0 ≤ 32
-counts-few {all} h q b l = let few = few-rows all (sym (h .answer) ∙ q) b l in omega (arith, h .gathered q b l .count, few)
+pub counts-few : {w : ℕ} {all : ℕ → List (List ℕ)} {rows counts : List ℕ} {full : Bool} → KindRows w all rows counts full → full ≡ false → (b : ℕ) → b < 24 → getD counts b 0 ≤ 32
+counts-few {all = all} h q b l = let few = few-rows all (sym (h .answer) ∙ q) b l in omega (arith, h .gathered q b l .count, few)
 
-module _ (n : ℕ) (t : Task) (rows counts sets : List ℕ) where
+module _ (k : Cache) (t : Task) (rows counts sets : List ℕ) where
   -- none where a block has too many reaching states
-  pub used-full : {full : Bool} → full ≡ true → length sets ≡ 32 → KindRows (reaching (wide 16 n) t) rows counts full → TaskUsed n t rows sets 0
+  pub used-full : {full : Bool} → full ≡ true → length sets ≡ 32 → KindRows (k .width) (reaching k t) rows counts full → TaskUsed k t rows sets 0
   used-full q s h = record { rowsLong = h .long; setsLong = s; few = omega arith; found = λ f. absurd (true≢false (sym q ∙ h .answer ∙ f)); none = λ d. refl }
 
-  -- else those of the rows gathered at the end block
-  pub used-few : {full : Bool} (blocks count : ℕ) → full ≡ false → length sets ≡ 32 → KindRows (reaching (wide 16 n) t) rows counts full
-      → blocks ≡ length t → 1 ≤ blocks → blocks ≤ 24 → count ≤ 32
-      → take count sets ≡ distinct [] (map usedSet (rowsOf 16 (getD counts (blocks - 1) 0) (take (512 * (blocks - 1) + 512 - 512 * (blocks - 1)) (drop (512 * (blocks - 1)) rows))))
-      → TaskUsed n t rows sets count
-  used-few blocks count q s h e lo hi few f =
+  -- else those of the rows gathered at the end block, which were lent as a part
+  pub used-few : {full : Bool} (blocks count : ℕ) {part : List ℕ} → full ≡ false → length sets ≡ 32 → KindRows (k .width) (reaching k t) rows counts full
+      → blocks ≡ length t → 1 ≤ blocks → blocks ≤ 24 → count ≤ 32 → part ≡ partOf (k .width) rows (blocks - 1)
+      → take count sets ≡ distinct [] (map usedSet (rowsOf (k .width) (getD counts (blocks - 1) 0) part)) → TaskUsed k t rows sets count
+  used-few blocks count {part} q s h e lo hi few lent f =
       record {
         rowsLong = h .long;
         setsLong = s;
         few = few;
-        found = λ x v. ap (mem eqb v) f ∙ distinct-mem v (map usedSet (rowsOf 16 (getD counts (blocks - 1) 0) (take (512 * (blocks - 1) + 512 - 512 * (blocks - 1)) (drop (512 * (blocks - 1)) rows)))) ∙ at-end v;
+        found = λ x v. ap (mem eqb v) f ∙ distinct-mem v (map usedSet (rowsOf (k .width) (getD counts (blocks - 1) 0) part)) ∙ at-end v;
         none = λ d. absurd (d (sym (h .answer) ∙ q));
       }
     where
-      last : blocks - 1 ≡ end t
-      last = ap (λ (x : ℕ). x - 1) e
-
-      size : 512 * (blocks - 1) + 512 - 512 * (blocks - 1) ≡ 512
-      size = omega arith
-
-      g : GatheredRows (reaching (wide 16 n) t) rows counts (blocks - 1)
+      g : GatheredRows (k .width) (reaching k t) rows counts (blocks - 1)
       g = h .gathered q (blocks - 1) (omega arith)
 
-      at-end : (v : ℕ) → mem eqb v (map usedSet (rowsOf 16 (getD counts (blocks - 1) 0) (take (512 * (blocks - 1) + 512 - 512 * (blocks - 1)) (drop (512 * (blocks - 1)) rows))))
-          ≡ mem eqb v (map usedSet (reaching (wide 16 n) t (end t)))
+      at-end : (v : ℕ) → mem eqb v (map usedSet (rowsOf (k .width) (getD counts (blocks - 1) 0) part)) ≡ mem eqb v (map usedSet (reaching k t (end t)))
       at-end v =
-          rw (size, g .count)
-          (used-sorted (rowsOf 16 (length (reaching (wide 16 n) t (blocks - 1))) (partOf 16 rows (blocks - 1))) (reaching (wide 16 n) t (blocks - 1)) (g .list) v
-          ∙ ap (λ (b : ℕ). mem eqb v (map usedSet (reaching (wide 16 n) t b))) last)
+          rw (lent, g .count)
+          (used-sorted (rowsOf (k .width) (length (reaching k t (blocks - 1))) (partOf (k .width) rows (blocks - 1))) (reaching k t (blocks - 1)) (g .list) v
+          ∙ ap (λ (b : ℕ). mem eqb v (map usedSet (reaching k t b))) (ap (λ (x : ℕ). x - 1) e))
 
 -- ---- the used sets of each task in a part of their own
 
-module _ (n : ℕ) (ts : List Task) (j : ℕ) (sets counts part : List ℕ) (count : ℕ) (inside : j < 8) (so-far : UsedFound n ts j sets counts) where
+module _ (k : Cache) (ts : List Task) (j : ℕ) (sets counts part : List ℕ) (count : ℕ) (inside : j < 8) (so-far : UsedFound k ts j sets counts) where
   abbrev grown : List ℕ
   grown = putMid (32 * j) (32 * j + 32 - 32 * j) sets part
 
   abbrev more : List ℕ
   more = set counts j count
 
-  module _ {rows : List ℕ} (new : TaskUsed n (task ts j) rows part count) where
+  module _ {rows : List ℕ} (new : TaskUsed k (task ts j) rows part count) where
     back : grown ≡ take (32 * j) sets ++ (part ++ drop (32 * j + 32) sets)
     back = lent-back (32 * j) 32 sets part
 
@@ -125,21 +117,21 @@ module _ (n : ℕ) (ts : List Task) (j : ℕ) (sets counts part : List ℕ) (cou
         ap₂ take (getD-set-other counts j i count 0 (λ e. omega arith)) (ap (drop (32 * i)) back)
         ∙ replaced-before sets part (32 * j) 32 fits (new .setsLong) (getD counts i 0) (32 * i) (omega (arith, so-far .room .few i (omega arith)))
 
-    pub used-turn : UsedFound n ts (j + 1) grown more
+    pub used-turn : UsedFound k ts (j + 1) grown more
     used-turn =
         record {
           room = record { long = ap length back ∙ replaced-length sets part (32 * j) 32 fits (new .setsLong) ∙ so-far .room .long; many = length-set counts j count ∙ so-far .room .many; few = few-more; inside = omega arith };
           found = found;
         }
       where
-        found : (i : ℕ) → i < j + 1 → Few n (task ts i) → AllUsed n (task ts i) (usedOf grown more i)
+        found : (i : ℕ) → i < j + 1 → Few k (task ts i) → AllUsed k (task ts i) (usedOf grown more i)
         found i l f = go (eqb i j) refl
           where
-            go : (b : Bool) → eqb i j ≡ b → AllUsed n (task ts i) (usedOf grown more i)
+            go : (b : Bool) → eqb i j ≡ b → AllUsed k (task ts i) (usedOf grown more i)
             go true e = rw (eqb-true i j e, here) (new .found (rw (eqb-true i j e) at f))
-            go false e = let k : i < j = omega (arith, eqb-false i j e) in rw (before i k) (so-far .found i k f)
+            go false e = let m : i < j = omega (arith, eqb-false i j e) in rw (before i m) (so-far .found i m f)
 
-    pub others-turn : NoOthers n ts j counts → NoOthers n ts (j + 1) more
+    pub others-turn : NoOthers k ts j counts → NoOthers k ts (j + 1) more
     others-turn others i d = go (eqb i j) refl
       where
         go : (b : Bool) → eqb i j ≡ b → getD more i 0 ≡ 0
@@ -156,8 +148,8 @@ getD-zeros (suc k) zero = refl
 getD-zeros (suc k) (suc i) = getD-zeros k i
 
 -- no sets yet
-pub used-none : (n : ℕ) (ts : List Task) {sets counts : List ℕ} → length sets ≡ 256 → counts ≡ replicate 8 0 → UsedFound n ts 0 sets counts
-used-none n ts {sets} {counts} long zeros =
+pub used-none : (k : Cache) (ts : List Task) {sets counts : List ℕ} → length sets ≡ 256 → counts ≡ replicate 8 0 → UsedFound k ts 0 sets counts
+used-none k ts {sets} {counts} long zeros =
     record {
       room =
           record {
@@ -169,5 +161,5 @@ used-none n ts {sets} {counts} long zeros =
       found = λ j l. absurd (not-suc-le-zero l);
     }
 
-pub others-none : (n : ℕ) (ts : List Task) {counts : List ℕ} → counts ≡ replicate 8 0 → NoOthers n ts 0 counts
-others-none n ts zeros j d = rw zeros (getD-zeros 8 j)
+pub others-none : (k : Cache) (ts : List Task) {counts : List ℕ} → counts ≡ replicate 8 0 → NoOthers k ts 0 counts
+others-none k ts zeros j d = rw zeros (getD-zeros 8 j)

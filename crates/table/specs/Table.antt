@@ -5,60 +5,56 @@ use mathlib.Core.List.{List, [], _∷_, _++_, map}
 use Prim.Native.Nat.{ℕ, zero, suc}
 use lib.Dec.{eqb, ltb}
 use lib.ListN.{length}
-use Rattle.cache.specs.Cache.{direct}
+use Rattle.cache.specs.Cache.{Cache, rowFrom}
 use Rattle.model.specs.Tasks.{Task}
 use Rattle.model.specs.States.{Fault11}
 use Rattle.project.specs.declared.answers.Check.{Check}
 use Rattle.project.specs.declared.answers.Check.the-variants.{Passed}
 use Rattle.project.specs.declared.answers.Check.the-variants.{Refused as Failed}
 use Rattle.project.specs.declared.answers.Filling.{Filling}
-use Rattle.project.specs.File.{cacheBlocks, taskCount}
+use Rattle.project.specs.File.{File, taskCount}
 use Rattle.project.specs.Checklist.{Entry, one, each, noTask, Of, lowest, verdictOf}
 use Rattle.project.specs.Reading.{fileChecks}
 use Rattle.project.specs.Filling.{pickFilling}
-use Rattle.project.specs.Tasks.{tasksOf, filePair}
+use Rattle.project.specs.Tasks.{tasksOf, fileCacheIn, fileCache, filePair}
+use Rattle.rows.specs.Rows.{Area, areaLength}
 use Rattle.graphs.specs.TaskRows.{test11}
-use Rattle.area.specs.Area.{areaLength}
 
 -- check 1: "work area or table of another length"; the table is "of exactly 64 numbers"
-abbrev pub test1 : ℕ → List ℕ → List ℕ → Bool
+abbrev pub test1 : ℕ → Area → List ℕ → Bool
 test1 w area table = not (eqb (length area) (areaLength w)) || not (eqb (length table) 64)
 
-abbrev pub Fault1 : ℕ → List ℕ → List ℕ → Type 0
+abbrev pub Fault1 : ℕ → Area → List ℕ → Type 0
 Fault1 w area table = (length area ≢ areaLength w) ⊎ (length table ≢ 64)
 
 -- check 11 "names the lowest task at fault", from task j on
-abbrev pub firstFull : ℕ → ℕ → ℕ → List Task → Check
-firstFull w n j ts = lowest 11 j (map (test11 w n) ts)
+abbrev pub firstFull : Cache → ℕ → List Task → Check
+firstFull k j ts = lowest 11 j (map (test11 k) ts)
 
 -- check 11 of all tasks
-abbrev pub fullChecks : ℕ → List ℕ → List Entry
-fullChecks w s = each 11 (map (test11 w (cacheBlocks s)) (tasksOf s)) (Of (Fault11 (direct (cacheBlocks s))) [] (tasksOf s)) ∷ []
+abbrev pub fullChecks : ℕ → File → List Entry
+fullChecks w s = each 11 (map (test11 (fileCacheIn w s)) (tasksOf s)) (Of (Fault11 (fileCache s)) [] (tasksOf s)) ∷ []
 
 -- "Table checks 1 to 11."
-abbrev pub tableChecks : ℕ → List ℕ → List ℕ → List ℕ → List Entry
+abbrev pub tableChecks : ℕ → File → Area → List ℕ → List Entry
 tableChecks w s area table = one 1 noTask (test1 w area table) (Fault1 w area table) ∷ (fileChecks s ++ fullChecks w s)
 
-abbrev pub tableCheck : ℕ → List ℕ → List ℕ → List ℕ → Check
+abbrev pub tableCheck : ℕ → File → Area → List ℕ → Check
 tableCheck w s area table = verdictOf (tableChecks w s area table)
 
-abbrev pub tableAnswer : ℕ → List ℕ → List ℕ → List ℕ → Filling
+abbrev pub tableAnswer : ℕ → File → Area → List ℕ → Filling
 tableAnswer w s area table = pickFilling (tableCheck w s area table)
 
 -- "place 8i + j gets the pair number of i preempted by j; the diagonal and places of absent tasks get 0": place (i, j)
-abbrev pub entryOf : List ℕ → ℕ → ℕ → ℕ
+abbrev pub entryOf : File → ℕ → ℕ → ℕ
 entryOf s i j = cond (ltb i (taskCount s) && (ltb j (taskCount s) && not (eqb i j))) (filePair s i j) 0
 
--- `left` places of row i from column j on, and `left` rows from row i on
-abbrev pub rowFrom : (ℕ → ℕ → ℕ) → ℕ → ℕ → ℕ → List ℕ
-rowFrom f i zero j = []
-rowFrom f i (suc left) j = f i j ∷ rowFrom f i left (suc j)
-
+-- the eight places of each of `left` rows, from row i on
 abbrev pub rowsFrom : (ℕ → ℕ → ℕ) → ℕ → ℕ → List ℕ
 rowsFrom f zero i = []
-rowsFrom f (suc left) i = rowFrom f i 8 0 ++ rowsFrom f left (suc i)
+rowsFrom f (suc left) i = rowFrom 0 8 (f i) ++ rowsFrom f left (suc i)
 
-unfoldable pub tableOf : List ℕ → List ℕ
+unfoldable pub tableOf : File → List ℕ
 tableOf s = rowsFrom (entryOf s) 8 0
 
 abbrev pub pickTable : Check → List ℕ → List ℕ → List ℕ
@@ -66,5 +62,5 @@ pickTable Passed old new = new
 pickTable (Failed c a) old new = old
 
 -- "After a refusal table and out list keep their contents"
-abbrev pub tableAfter : ℕ → List ℕ → List ℕ → List ℕ → List ℕ
+abbrev pub tableAfter : ℕ → File → Area → List ℕ → List ℕ
 tableAfter w s area table = pickTable (tableCheck w s area table) table (tableOf s)

@@ -3,15 +3,26 @@ mod numbers;
 mod used;
 
 ghost use mathlib.Core.Path.{_≡_};
+ghost use mathlib.Core.Bool.{true};
 ghost use lib.ListN.{length};
-ghost use Rattle.table.specs.Table.{tableAnswer, tableAfter};
-use body::block::count;
+ghost use Rattle.cache.specs.Shape.{shaped, Holds};
+ghost use Rattle.rows.specs.Rows.{Width, areaLength};
+ghost use Rattle.project.specs.File.{taskCount};
+ghost use Rattle.project.specs.Reading.{headCheck, readingOf};
+ghost use Rattle.project.specs.Bodies.{accepted};
+ghost use Rattle.project.specs.Filling.{pickFilling};
+ghost use Rattle.project.specs.Tasks.{tasksOf, fileShape};
+ghost use Rattle.table.specs.Table.{firstFull, tableOf, pickTable, tableAnswer, tableAfter};
+use area::AREA_LENGTH;
+use cache::blocks::CacheShape;
+use cache::numbers::byte_count;
 use numbers::find_numbers;
 use project::answers::Check;
 use project::answers::Filling;
 use project::answers::NO_TASK;
 use project::answers::Reading;
-use reader::read;
+use project::head::head;
+use reader::read_bodies;
 use used::find_used;
 
 // The table gets the numbers.
@@ -24,33 +35,70 @@ fn copy_numbers(numbers: &[u16], table: &mut [u16])
     }
 }
 
+// The table of an accepted file, gathered in an area for rows of w places; check 11. What the area holds afterwards is free.
+fn fill_table(
+    file: &[u8],
+    shape: CacheShape,
+    w: usize,
+    tasks: usize,
+    area: &mut [u16],
+    table: &mut [u16],
+) -> Filling
+    requires { ⌜ (accepted (readingOf (now file)) ≡ true) × (shape ≡ fileShape (now file)) × Holds w shape × Width w × (tasks ≡ taskCount (now file))
+        × (length (now area) ≡ areaLength w) × (length (now table) ≡ 64) ⌝ }
+    ensures { λ r. ⌜ (r ≡ pickFilling (firstFull (shaped w shape) 0 (tasksOf (now (file .entry)))))
+        × (now (table .exit) ≡ pickTable (firstFull (shaped w shape) 0 (tasksOf (now (file .entry)))) (now (table .entry)) (tableOf (now (file .entry))))
+        × (length (now (area .exit)) ≡ areaLength w) ⌝ }
+{
+    let mut sets = [0u32; 256];
+    let mut counts = [0usize; 8];
+    let mut numbers = [0u16; 64];
+    find_used(file, shape, w, tasks, area, &mut sets, &mut counts);
+    match find_numbers(file, shape, w, tasks, area, &sets, &counts, &mut numbers) {
+        Check::Refused { check, task } => Filling::Refused { check, task },
+        Check::Passed => {
+            copy_numbers(&numbers, table);
+            Filling::Filled
+        }
+    }
+}
+
+// The answer of Table for a file whose first eight bytes passed their checks, with lists of the right lengths. What the work area holds
+// afterwards is free.
+fn table_of_bodies(file: &[u8], area: &mut [u16], table: &mut [u16]) -> Filling
+    requires { ⌜ (headCheck (now file) ≡ Check.Passed) × (length (now area) ≡ areaLength 16) × (length (now table) ≡ 64) ⌝ }
+    ensures { λ r. ⌜ (r ≡ tableAnswer 16 (now (file .entry)) (now (area .entry)) (now (table .entry)))
+        × (now (table .exit) ≡ tableAfter 16 (now (file .entry)) (now (area .entry)) (now (table .entry)))
+        × (length (now (area .exit)) ≡ areaLength 16) ⌝ }
+{
+    match read_bodies(file) {
+        Reading::Refused { check, task } => Filling::Refused { check, task },
+        Reading::Accepted { n, t } => fill_table(
+            file,
+            CacheShape { blocks: n },
+            16,
+            byte_count(t),
+            area,
+            table,
+        ),
+    }
+}
+
 // Table: the pair number of task i preempted by task j at 8 i + j, or the check that fails first. What the work area holds afterwards is free.
+// The first bytes are checked here, so that a file that they refuse costs no call.
 pub fn table(file: &[u8], area: &mut [u16], table: &mut [u16]) -> Filling
     ensures { λ r. ⌜ (r ≡ tableAnswer 16 (now (file .entry)) (now (area .entry)) (now (table .entry)))
         × (now (table .exit) ≡ tableAfter 16 (now (file .entry)) (now (area .entry)) (now (table .entry)))
         × (length (now (area .exit)) ≡ length (now (area .entry))) ⌝ }
 {
-    if area.len() != 24832 || table.len() != 64 {
+    if area.len() != AREA_LENGTH || table.len() != 64 {
         return Filling::Refused {
             check: 1,
             task: NO_TASK,
         };
     }
-    match read(file) {
-        Reading::Refused { check, task } => Filling::Refused { check, task },
-        Reading::Accepted { n, t } => {
-            let tasks = count(t);
-            let mut sets = [0u32; 256];
-            let mut counts = [0usize; 8];
-            let mut numbers = [0u16; 64];
-            find_used(file, n, tasks, area, &mut sets, &mut counts);
-            match find_numbers(file, n, tasks, area, &sets, &counts, &mut numbers) {
-                Check::Refused { check, task } => Filling::Refused { check, task },
-                Check::Passed => {
-                    copy_numbers(&numbers, table);
-                    Filling::Filled
-                }
-            }
-        }
+    match head(file) {
+        Check::Refused { check, task } => Filling::Refused { check, task },
+        Check::Passed => table_of_bodies(file, area, table),
     }
 }

@@ -2,20 +2,22 @@
 ghost use mathlib.Core.Path.{_≡_};
 ghost use mathlib.Core.Bool.{true};
 ghost use mathlib.Core.List.{List};
-ghost use Prim.Native.Nat.{_≤_, _<_};
 ghost use lib.ListN.{length, replicate};
+ghost use Rattle.cache.specs.Shape.{shaped, Holds};
 ghost use Rattle.model.specs.Tasks.{Task};
+ghost use Rattle.rows.specs.Rows.{Width, areaLength};
 ghost use Rattle.body.specs.Decode.{decode, taskOf};
 ghost use Rattle.body.specs.Walk.{keptOf};
 ghost use Rattle.project.specs.declared.answers.Check.the-variants.{Passed};
-ghost use Rattle.project.specs.File.{cacheBlocks, taskCount};
+ghost use Rattle.project.specs.File.{taskCount};
 ghost use Rattle.project.specs.Reading.{readingOf};
 ghost use Rattle.project.specs.Bodies.{accepted};
-ghost use Rattle.project.specs.Tasks.{tasksOf};
+ghost use Rattle.project.specs.Tasks.{tasksOf, fileShape};
 ghost use Rattle.pairs.specs.Pairs.{UsedSets};
 ghost use Rattle.table.specs.Table.{firstFull, tableOf};
 ghost use Rattle.table.specs.Found.{UsedFound, NumbersFound};
 use body::block_count;
+use cache::blocks::CacheShape;
 use graphs::task_rows::task_rows;
 use pairs::numbers::meet_task;
 use project::answers::Check;
@@ -26,27 +28,31 @@ use reader::tasks::task_byte;
 // of some tasks. Left open are the area, and the numbers against tasks with too many reaching states.
 fn task_numbers(
     body: &[u8],
-    n: u8,
+    shape: CacheShape,
+    w: usize,
     area: &mut [u16],
     sets: &[u32],
     counts: &[usize],
     tasks: usize,
     numbers: &mut [u16],
 ) -> bool
-    requires { ⌜ (keptOf (decode (now body)) ≡ true) × (0 < n) × (n ≤ 16) × (length (now area) ≡ 24832) × UsedSets (now sets) (now counts) tasks × (now numbers ≡ replicate 8 0) ⌝ }
-    ensures { λ r. ⌜ (length (now (area .exit)) ≡ 24832) × ((ts : List Task) → UsedFound n ts tasks (now (sets .entry)) (now (counts .entry))
-        → NumbersFound n ts tasks (taskOf (decode (now (body .entry)))) (now (numbers .exit)) r) ⌝ }
+    requires { ⌜ (keptOf (decode (now body)) ≡ true) × Holds w shape × Width w × (length (now area) ≡ areaLength w)
+        × UsedSets (now sets) (now counts) tasks × (now numbers ≡ replicate 8 0) ⌝ }
+    ensures { λ r. ⌜ (length (now (area .exit)) ≡ areaLength w) × ((ts : List Task) → UsedFound (shaped w shape) ts tasks (now (sets .entry)) (now (counts .entry))
+        → NumbersFound (shaped w shape) ts tasks (taskOf (decode (now (body .entry)))) (now (numbers .exit)) r) ⌝ }
 {
     let mut reached = [0usize; 24];
     let mut lived = [0usize; 24];
-    if task_rows(body, n, area, &mut reached, &mut lived) {
+    if task_rows(body, shape, w, area, &mut reached, &mut lived) {
         return true;
     }
+    let kind = 24 * (32 * w);
     meet_task(
+        w,
         block_count(body),
-        &area[0..12288],
+        &area[0..kind],
         &reached,
-        &area[12288..24576],
+        &area[kind..kind + kind],
         &lived,
         sets,
         counts,
@@ -60,22 +66,24 @@ fn task_numbers(
 // refusal, and the area.
 pub fn find_numbers(
     file: &[u8],
-    n: u8,
+    shape: CacheShape,
+    w: usize,
     tasks: usize,
     area: &mut [u16],
     sets: &[u32],
     counts: &[usize],
     numbers: &mut [u16],
 ) -> Check
-    requires { ⌜ (accepted (readingOf (now file)) ≡ true) × (n ≡ cacheBlocks (now file)) × (tasks ≡ taskCount (now file)) × (length (now area) ≡ 24832)
-        × UsedFound n (tasksOf (now file)) tasks (now sets) (now counts) × (now numbers ≡ replicate 64 0) ⌝ }
-    ensures { λ r. ⌜ (length (now (area .exit)) ≡ 24832) × (r ≡ firstFull 16 n 0 (tasksOf (now (file .entry))))
+    requires { ⌜ (accepted (readingOf (now file)) ≡ true) × (shape ≡ fileShape (now file)) × Holds w shape × Width w × (tasks ≡ taskCount (now file))
+        × (length (now area) ≡ areaLength w) × UsedFound (shaped w shape) (tasksOf (now file)) tasks (now sets) (now counts) × (now numbers ≡ replicate 64 0) ⌝ }
+    ensures { λ r. ⌜ (length (now (area .exit)) ≡ areaLength w) × (r ≡ firstFull (shaped w shape) 0 (tasksOf (now (file .entry))))
         × (r ≡ Passed → now (numbers .exit) ≡ tableOf (now (file .entry))) ⌝ }
 {
     for i in 0..tasks {
         if task_numbers(
             task_body(file, i),
-            n,
+            shape,
+            w,
             area,
             sets,
             counts,

@@ -1,14 +1,13 @@
 -- Bytes put from a place on, and more from where they end, are all of them put from that place on.
 -- The idea: what was put ends the front that the next bytes leave alone.
 use mathlib.Core.Path.{_≡_, sym, ap, ap₂, _∙_}
-use mathlib.Core.List.{List, [], _∷_, _++_, append-assoc, append-nil}
-use Prim.Native.Nat.{ℕ, _+_, _-_, _≤_, _<_}
+use mathlib.Core.List.{List, [], _∷_, _++_, append-assoc}
+use Prim.Native.Nat.{ℕ, _+_, _≤_, _<_}
 use native.Mathlib.Nat.{add-zero, zero-add}
 use native.Mathlib.Numerals.{add-one}
 use native.Mathlib.Omega.{arith}
-use lib.ListN.{length, take, drop, set, length-append, length-drop, take-append-drop, drop-of-length-le}
-use borrow.Rule.Slice.PartMut.{putMid, postOf}
-use lib.Seq.{take-all, take-length, length-take-le, take-at, drop-at, drop-drop, set-split}
+use lib.ListN.{length, take, drop, set, length-append, take-append-drop}
+use lib.Seq.{length-take-le, take-at, drop-at, drop-drop, set-split}
 use Rattle.rows.specs.Append.{put}
 use Rattle.text.specs.Text.{Placed}
 
@@ -43,16 +42,6 @@ put-one l at b h = set-split l at b h ∙ ap (λ (k : ℕ). take at l ++ (b ∷ 
 -- no bytes
 pub put-none : (l : List ℕ) (at : ℕ) → put l at [] ≡ l
 put-none l at = ap (λ (k : ℕ). take at l ++ drop k l) (add-zero at) ∙ take-append-drop at l
-
--- bytes copied to the front of the part from `at` on, which has come back
-pub copied : (l vs : List ℕ) (at : ℕ) {new : List ℕ} → at + length vs ≤ length l
-    → new ≡ take (length vs) vs ++ drop (length vs) (take (length l - at) (drop at l)) → putMid at (length l - at) l new ≡ put l at vs
-copied l vs at {new} h e =
-    let part : take (length l - at) (drop at l) ≡ drop at l = take-all (length l - at) (drop at l) (simp length-drop (omega arith)) in
-    let after : postOf at (length l - at) l ≡ [] = drop-of-length-le (drop at l) {i = length l - at} (simp length-drop (omega arith)) in
-    let whole : new ≡ vs ++ drop (at + length vs) l =
-    e ∙ ap₂ (λ (p q : List ℕ). p ++ drop (length vs) q) (take-length vs) part ∙ ap (λ (q : List ℕ). vs ++ q) (drop-drop (length vs) at l) in
-    ap₂ (λ (p q : List ℕ). take at l ++ (p ++ q)) whole after ∙ ap (λ (q : List ℕ). take at l ++ q) (append-nil (vs ++ drop (at + length vs) l))
 
 -- text after text
 pub placed-more : (l : List ℕ) (at : ℕ) (vs ws : List ℕ) {l1 l2 : List ℕ} {next end : ℕ} → at + length vs ≤ length l

@@ -7,15 +7,9 @@ ghost use mathlib.Core.List.{_++_};
 ghost use Prim.Native.Nat.{_≤_, _<_};
 ghost use lib.ListN.{length, drop};
 ghost use Rattle.text.specs.Text.{refusalLine, tableText};
+use cache::numbers::byte_number;
 use lines::put_row;
 use lines::put_two;
-
-// A byte as a two-byte number.
-fn wide(x: u8) -> u16
-    ensures { λ r. ⌜ (r ≡ x) × (r < 256) ⌝ }
-{
-    x as u16
-}
 
 // The line of a refusal is put to the front of out; answers its length.
 pub fn refusal_text(check: u8, task: u8, out: &mut [u8]) -> usize
@@ -23,7 +17,13 @@ pub fn refusal_text(check: u8, task: u8, out: &mut [u8]) -> usize
     ensures { λ r. ⌜ (r ≡ length (refusalLine check task)) × (r ≤ 2048)
         × (now (out .exit) ≡ refusalLine check task ++ drop (length (refusalLine check task)) (now (out .entry))) ⌝ }
 {
-    put_two(out, b"refused ", wide(check), b" task ", wide(task))
+    put_two(
+        out,
+        b"refused ",
+        byte_number(check),
+        b" task ",
+        byte_number(task),
+    )
 }
 
 // The text of a table of pair numbers is put to the front of out; answers its length.
@@ -32,8 +32,8 @@ pub fn table_text(n: u8, t: u8, numbers: &[u16], out: &mut [u8]) -> usize
     ensures { λ r. ⌜ (r ≡ length (tableText n t (now (numbers .entry)))) × (r ≤ 2048)
         × (now (out .exit) ≡ tableText n t (now (numbers .entry)) ++ drop (length (tableText n t (now (numbers .entry)))) (now (out .entry))) ⌝ }
 {
-    let tasks = wide(t);
-    let mut next = put_two(out, b"cache ", wide(n), b" tasks ", tasks);
+    let tasks = byte_number(t);
+    let mut next = put_two(out, b"cache ", byte_number(n), b" tasks ", tasks);
     for i in 0..tasks {
         next = put_row(out, next, i, tasks, numbers);
     }

@@ -1,13 +1,15 @@
 -- The pieces put one after the other are the file.
 -- The idea: bytes put from a place on, and more from where they end, are all of them put from that place on.
 use mathlib.Core.Path.{_≡_, refl, sym, ap, ap₂, _∙_}
-use mathlib.Core.List.{List, [], _∷_, _++_}
-use Prim.Native.Nat.{ℕ, suc, _+_, _*_, _≤_, _<_}
+use mathlib.Core.List.{List, [], _∷_, _++_, append-assoc}
+use Prim.Native.Nat.{ℕ, suc, _+_, _*_, _-_, _≤_, _<_}
 use native.Mathlib.Nat.{add-zero, add-suc, suc-add}
 use native.Mathlib.Numerals.{add-one}
 use native.Mathlib.Omega.{arith}
-use lib.ListN.{length, getD, drop, set, length-append, length-drop, take-append-drop, drop-of-length-le}
+use lib.ListN.{length, getD, take, drop, set, length-append, length-drop, take-append-drop, drop-of-length-le}
 use lib.Seq.{drop-cons, length-take-le, sets, sets-eq}
+use borrow.Rule.Slice.PartMut.{putMid}
+use Rattle.cache.proofs.Copies.{copied}
 use Rattle.body.specs.Layout.{twoBytes}
 use Rattle.project.specs.File.{mark, joined, contentsOf, fileOf}
 use Rattle.project.specs.Writing.{total, cut, fileLength}
@@ -20,14 +22,10 @@ sets-append [] ws l i = ap (λ k. sets l k ws) (sym (add-zero i))
 sets-append (a ∷ vs) ws l i =
     sets-append vs ws (set l i a) (suc i) ∙ ap (λ k. sets (sets (set l i a) (suc i) vs) k ws) (suc-add i (length vs) ∙ sym (add-suc i (length vs)))
 
--- a turn of the loop over bytes
-pub byte-turn : (bytes out : List ℕ) (at i : ℕ) → i < length bytes → sets (set out (at + i) (getD bytes i 0)) (at + (i + 1)) (drop (i + 1) bytes) ≡ sets out (at + i) (drop i bytes)
-byte-turn bytes out at i h =
-    let e : at + (i + 1) ≡ suc (at + i) = omega arith in
-    rw (e, add-one i, drop-cons bytes i 0 h)
-
-pub bytes-end : (bytes out : List ℕ) (at i : ℕ) → length bytes ≤ i → out ≡ sets out at (drop i bytes)
-bytes-end bytes out at i h = rw (drop-of-length-le bytes {i = i} h)
+-- bytes copied into the part from `at` on
+pub bytes-copied : (out piece : List ℕ) (at : ℕ) {new : List ℕ} → at + length piece ≤ length out
+    → new ≡ take (length piece) piece ++ drop (length piece) (take (length out - at) (drop at out)) → putMid at (length out - at) out new ≡ sets out at piece
+bytes-copied out piece at h e = copied out piece at h e ∙ sym (sets-eq piece out at h ∙ append-assoc (take at out) piece (drop (at + length piece) out))
 
 -- a turn of the loop over lengths
 pub entry-turn : (ls out : List ℕ) {next : List ℕ} (offset j : ℕ) → j < length ls → next ≡ sets out (8 + 4 * j) (twoBytes (offset ∷ getD ls j 0 ∷ []))

@@ -11,13 +11,11 @@ ghost use Rattle.writer.specs.Pieces.{entries};
 use project::head::MARK;
 
 // The bytes are put in their order from at on.
-fn put_bytes(out: &mut [u8], at: usize, bytes: &[u8])
-    requires { ⌜ at + length (now bytes) ≤ length (now out) ⌝ }
-    ensures { λ _. ⌜ now (out .exit) ≡ sets (now (out .entry)) at (now (bytes .entry)) ⌝ }
+fn put_bytes(out: &mut [u8], at: usize, piece: &[u8])
+    requires { ⌜ at + length (now piece) ≤ length (now out) ⌝ }
+    ensures { λ _. ⌜ now (out .exit) ≡ sets (now (out .entry)) at (now (piece .entry)) ⌝ }
 {
-    for i in 0..bytes.len() {
-        out[at + i] = bytes[i];
-    }
+    bytes::copy(piece, &mut out[at..]);
 }
 
 // The offset and the length of a body are put at at, each as two bytes, low byte first.

@@ -28,18 +28,18 @@ counted s k =
     let f = first-byte s t e in
     record { there = f .there; count = f .count ∙ sym same; some = omega (arith, same, b .some); few = omega (arith, same, b .few) }
 
-shared-slice-read-count : tie.Need-shared-slice-read-count
-shared-slice-read-count c = counted (c .before .before .args .body .now) (c .before .before .pre) .there
+shared-slice-read-byte-count : tie.Need-shared-slice-read-byte-count
+shared-slice-read-byte-count c = counted (c .before .before .args .body .now) (c .before .before .pre) .there
 
-count-requires : tie.Need-count-requires
-count-requires c κs = search needs
+byte-count-requires : tie.Need-byte-count-requires
+byte-count-requires c κs = search needs
 
 returns : tie.Need-returns
 returns c =
     let start = c .before .before .before in
     let n = counted (start .args .body .now) (start .pre) in
-    let e = c .count .ensures .0 ∙ n .count in
+    let e = c .byte-count .ensures .0 ∙ n .count in
     (e, omega (arith, e, n .some), omega (arith, e, n .few))
 
 pub block-count-spec : {M : Type 1} → statement M
-block-count-spec = tie.close (tie.spec shared-slice-read-count count-requires returns)
+block-count-spec = tie.close (tie.spec shared-slice-read-byte-count byte-count-requires returns)

@@ -9,14 +9,14 @@ use Rattle.body.proofs.successors.Tie as tie
 add-from : tie.Need-add-from
 add-from c = omega arith
 
-add-count : tie.Need-add-count
-add-count c = omega arith
+add-byte-count : tie.Need-add-byte-count
+add-byte-count c = omega arith
 
-shared-slice-read-count : tie.Need-shared-slice-read-count
-shared-slice-read-count c = omega arith
+shared-slice-read-byte-count : tie.Need-shared-slice-read-byte-count
+shared-slice-read-byte-count c = omega arith
 
-count-requires : tie.Need-count-requires
-count-requires c κs = search needs
+byte-count-requires : tie.Need-byte-count-requires
+byte-count-requires c κs = search needs
 
 add-to : tie.Need-add-to
 add-to c = omega arith
@@ -31,16 +31,16 @@ part-result-end : tie.Need-part-result-end
 part-result-end c = omega arith
 
 returns : tie.Need-returns
-returns c = part-is (c .before .before .before .before .args .body .now) refl (c .before .count .ensures .0)
+returns c = part-is (c .before .before .before .before .args .body .now) refl (c .before .byte-count .ensures .0)
 
 pub successors-spec : {M : Type 1} → statement M
 successors-spec =
     tie.close
     (tie.spec
     add-from
-    add-count
-    shared-slice-read-count
-    count-requires
+    add-byte-count
+    shared-slice-read-byte-count
+    byte-count-requires
     add-to
     sub-result
     part-result-start

@@ -41,8 +41,8 @@ returns-4 c =
     let s = c .before .before .before .before .before .before .before .args .body .now in
     answers-broken s (decode-odd s (omega arith) (omega arith) (omega arith) (λ e. omega arith))
 
-count-requires : tie.Need-count-requires Inv-loop μ-loop
-count-requires c κs = search needs
+byte-count-requires : tie.Need-byte-count-requires Inv-loop μ-loop
+byte-count-requires c κs = search needs
 
 loop-holds : tie.Need-loop-holds Inv-loop μ-loop
 loop-holds c =
@@ -102,7 +102,7 @@ walk-spec =
     returns-3
     shared-slice-read-if4
     returns-4
-    count-requires
+    byte-count-requires
     loop-holds
     block-end-requires
     enum-known-end

@@ -20,8 +20,8 @@ add-at c = omega (arith, inside (c .before) .below, inside (c .before) .few)
 number-at-requires : tie.Need-number-at-requires
 number-at-requires c κs = omega (arith, inside (c .before) .entry)
 
-wide-count-requires : tie.Need-wide-count-requires
-wide-count-requires c κs = search needs
+count-requires : tie.Need-count-requires
+count-requires c κs = search needs
 
 add-number-at : tie.Need-add-number-at
 add-number-at c = omega (arith, inside (c .before .before .before) .below, inside (c .before .before .before) .few)
@@ -29,14 +29,14 @@ add-number-at c = omega (arith, inside (c .before .before .before) .below, insid
 number-at-requires-2 : tie.Need-number-at-requires-2
 number-at-requires-2 c κs = omega (arith, inside (c .before .before .before) .entry)
 
-wide-count-requires-2 : tie.Need-wide-count-requires-2
-wide-count-requires-2 c κs = search needs
+count-requires-2 : tie.Need-count-requires-2
+count-requires-2 c κs = search needs
 
 returns : tie.Need-returns
 returns c =
     let start = c .before .before .before .before .before in
-    let from = c .before .before .wide-count .ensures .0 ∙ c .before .before .before .number-at .ensures in
-    let long = c .wide-count2 .ensures .0 ∙ c .before .number-at2 .ensures in
+    let from = c .before .before .count .ensures .0 ∙ c .before .before .before .number-at .ensures in
+    let long = c .count2 .ensures .0 ∙ c .before .number-at2 .ensures in
     (from, long, omega (arith, from, long, inside start .ending))
 
 pub entry-spec : {M : Type 1} → statement M
@@ -46,8 +46,8 @@ entry-spec =
     mul-at
     add-at
     number-at-requires
-    wide-count-requires
+    count-requires
     add-number-at
     number-at-requires-2
-    wide-count-requires-2
+    count-requires-2
     returns)

@@ -16,14 +16,14 @@ enum-told c = search needs
 enum-known-t : tie.Need-enum-known-t
 enum-known-t c = search needs
 
-count-requires : tie.Need-count-requires
-count-requires c κs = search needs
+byte-count-requires : tie.Need-byte-count-requires
+byte-count-requires c κs = search needs
 
 entry-requires : tie.Need-entry-requires
 entry-requires c κs =
     let start = c .before .before .before .before .before .before .before in
     let e = sym (c .before .before .before .before .before .read .ensures) ∙ c .before .before .before .t .given .1 in
-    (ap accepted e, body-inside (start .args .file .now) e (start .args .task) (omega (arith, c .if1 .taken, c .before .count .ensures)) .below)
+    (ap accepted e, body-inside (start .args .file .now) e (start .args .task) (omega (arith, c .if1 .taken, c .before .byte-count .ensures)) .below)
 
 returns : tie.Need-returns
 returns c = place-refused (c .before .before .before .before .args .file .now) (c .before .before .before .before .args .task) (sym (c .before .before .read .ensures) ∙ c .enum-told .given .1)
@@ -33,12 +33,12 @@ returns-2 c =
     let then = c .before in
     let start = then .before .before .before .before .before .before .before in
     place-there (start .args .file .now) (start .args .task) (sym (then .before .before .before .before .before .read .ensures) ∙ then .before .before .before .t .given .1)
-    (omega (arith, then .if1 .taken, then .before .count .ensures)) (c .entry .ensures .0) (c .entry .ensures .1)
+    (omega (arith, then .if1 .taken, then .before .byte-count .ensures)) (c .entry .ensures .0) (c .entry .ensures .1)
 
 returns-3 : tie.Need-returns-3
 returns-3 c =
     let start = c .before .before .before .before .before .before .before in
-    place-above (start .args .file .now) (start .args .task) (sym (c .before .before .before .before .before .read .ensures) ∙ c .before .before .before .t .given .1) (omega (arith, c .if1 .left, c .before .count .ensures))
+    place-above (start .args .file .now) (start .args .task) (sym (c .before .before .before .before .before .read .ensures) ∙ c .before .before .before .t .given .1) (omega (arith, c .if1 .left, c .before .byte-count .ensures))
 
 pub place-spec : {M : Type 1} → statement M
 place-spec =
@@ -47,7 +47,7 @@ place-spec =
     read-requires
     enum-told
     enum-known-t
-    count-requires
+    byte-count-requires
     entry-requires
     returns
     returns-2

@@ -1,84 +1,38 @@
--- `replay` meets its contract: the reading of the file, the rules of the sheet and its paths decide, one after the other. Assumes nothing.
-use mathlib.Core.Path.{_≡_, sym, _∙_}
-use Rattle.project.specs.declared.answers.Reading.the-variants.{Accepted}
-use Rattle.project.specs.Reading.{readingOf}
-use Rattle.replay.specs.Replay.{Passed12, Passed13}
-use Rattle.replay.proofs.CallLaws.{call-refused, call-12, passed-12, call-13, passed-13, call-counted}
+-- `replay` meets its contract: a head at fault is the answer, and a head that passed leaves the bodies. Assumes nothing.
+use mathlib.Core.Path.{sym, _∙_}
+use Rattle.reader.proofs.ReadLaws.{read-head}
+use Rattle.replay.proofs.CallLaws.{call-refused}
 use borrow.Author.Needs.{needs}
 use Rattle.replay.proofs.replay.Statement.{statement}
 use Rattle.replay.proofs.replay.Tie as tie
 
--- n and t are the file's
-reading : (c : tie.After-n) → readingOf (c .before .before .before .before .before .args .file .now) ≡ Accepted (c .n .given .0 .0) (c .n .given .0 .1 .0)
-reading c = sym (c .before .before .read .ensures) ∙ c .n .given .1
-
-ready : (c : tie.Then2) → Passed13 (c .before .before .before .before .before .before .before .before .before .before .before .args .file .now) (c .before .before .before .before .before .before .before .before .before .before .before .args .sheet .now) (c .before .before .before .before .before .before .n .given .0 .0)
-ready c =
-    let k = c .before .before .before in
-    let args = k .before .before .before .before .before .before .before .before .args in
-    passed-13 (args .file .now) (args .sheet .now) (reading (k .before .before .before)) (k .before .count .ensures .0) (k .sheet-kept .ensures) (c .before .before .if1 .taken) (c .before .all-complete .ensures) (c .if2 .taken)
-
-read-requires : tie.Need-read-requires
-read-requires c κs = search needs
+head-requires : tie.Need-head-requires
+head-requires c κs = search needs
 
 enum-known-check : tie.Need-enum-known-check
 enum-known-check c = search needs
 
-enum-known-n : tie.Need-enum-known-n
-enum-known-n c = search needs
+enum-told : tie.Need-enum-told
+enum-told c = search needs
 
-count-requires : tie.Need-count-requires
-count-requires c κs = search needs
-
-sheet-kept-requires : tie.Need-sheet-kept-requires
-sheet-kept-requires c κs = search needs
-
-all-complete-requires : tie.Need-all-complete-requires
-all-complete-requires c κs =
-    let k = c .before in
-    let args = k .before .before .before .before .before .before .before .before .args in
-    passed-12 (args .file .now) (args .sheet .now) (reading (k .before .before .before)) (k .before .count .ensures .0) (k .sheet-kept .ensures) (c .if1 .taken)
-
-undisturbed-requires : tie.Need-undisturbed-requires
-undisturbed-requires c κs = ready c
-
-disturbed-requires : tie.Need-disturbed-requires
-disturbed-requires c κs = ready (c .before)
+replay-bodies-requires : tie.Need-replay-bodies-requires
+replay-bodies-requires c κs = sym (c .before .before .head .ensures) ∙ c .enum-told .given .1
 
 returns : tie.Need-returns
 returns c =
-    let k = c .before .before .before .before .before in
-    let args = k .before .before .before .before .before .before .before .before .args in
-    call-counted (args .file .now) (args .sheet .now) (reading (k .before .before .before)) (k .before .count .ensures .0) (k .sheet-kept .ensures) (c .before .before .before .before .if1 .taken) (c .before .before .before .all-complete .ensures) (c .before .before .if2 .taken) (c .before .undisturbed .ensures) (c .disturbed .ensures)
+    let args = c .before .before .before .before .before .before .args in
+    call-refused (args .file .now) (args .sheet .now) (sym (read-head (args .file .now) (sym (c .before .before .before .head .ensures) ∙ c .before .check .given .1)))
 
 returns-2 : tie.Need-returns-2
-returns-2 c =
-    let k = c .before .before .before in
-    let args = k .before .before .before .before .before .before .before .before .args in
-    call-13 (args .file .now) (args .sheet .now) (reading (k .before .before .before)) (k .before .count .ensures .0) (k .sheet-kept .ensures) (c .before .before .if1 .taken) (c .before .all-complete .ensures) (c .if2 .left)
-
-returns-3 : tie.Need-returns-3
-returns-3 c = call-refused (c .before .before .before .before .before .before .args .file .now) (c .before .before .before .before .before .before .args .sheet .now) (sym (c .before .before .before .read .ensures) ∙ c .before .check .given .1)
-
-returns-4 : tie.Need-returns-4
-returns-4 c =
-    let k = c .before in
-    let args = k .before .before .before .before .before .before .before .before .args in
-    call-12 (args .file .now) (args .sheet .now) (reading (k .before .before .before)) (k .before .count .ensures .0) (k .sheet-kept .ensures) (c .if1 .left)
+returns-2 c = c .replay-bodies .ensures
 
 pub replay-spec : {M : Type 1} → statement M
 replay-spec =
     tie.close
     (tie.spec
-    read-requires
+    head-requires
     enum-known-check
-    enum-known-n
-    count-requires
-    sheet-kept-requires
-    all-complete-requires
-    undisturbed-requires
-    disturbed-requires
+    enum-told
+    replay-bodies-requires
     returns
-    returns-2
-    returns-3
-    returns-4)
+    returns-2)

@@ -8,20 +8,20 @@ use Rattle.seen.proofs.mark.Tie as tie
 cast-w : tie.Need-cast-w
 cast-w c = search needs
 
-cast-table : tie.Need-cast-table
-cast-table c = search needs
+cast-marks : tie.Need-cast-marks
+cast-marks c = search needs
 
-shl-table : tie.Need-shl-table
-shl-table c = search needs
+shl-marks : tie.Need-shl-marks
+shl-marks c = search needs
 
-mul-table : tie.Need-mul-table
-mul-table c = search needs
+mul-marks : tie.Need-mul-marks
+mul-marks c = search needs
 
-element-copy-out-table : tie.Need-element-copy-out-table
-element-copy-out-table c = search needs
+element-copy-out-marks : tie.Need-element-copy-out-marks
+element-copy-out-marks c = search needs
 
-element-write-table : tie.Need-element-write-table
-element-write-table c = search needs
+element-write-marks : tie.Need-element-write-marks
+element-write-marks c = search needs
 
 returns : tie.Need-returns
 returns c = λ ms e. seen-more ms (c .before .args .number) (search needs) e
@@ -31,9 +31,9 @@ mark-spec =
     tie.close
     (tie.spec
     cast-w
-    cast-table
-    shl-table
-    mul-table
-    element-copy-out-table
-    element-write-table
+    cast-marks
+    shl-marks
+    mul-marks
+    element-copy-out-marks
+    element-write-marks
     returns)

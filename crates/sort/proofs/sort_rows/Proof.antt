@@ -1,47 +1,60 @@
 -- `sort::sort_rows` meets its contract: after each turn one row more is sorted among those after it. Assumes nothing.
 use mathlib.Core.Path.{_≡_}
-use Prim.Native.Nat.{_+_, _-_, _≤_}
-use native.Mathlib.Omega.{arith}
+use Prim.Native.Nat.{_+_, _-_, _*_, _≤_}
+use native.Mathlib.Nat.{mul-le-mul-left}
 use borrow.Author.Needs.{needs}
 use lib.ListN.{length}
+use Rattle.rows.proofs.Parts.{row-within}
 use Rattle.sort.proofs.Sorted.{sortedPart, sort-start, lent-fits, lent-once, sort-turn, sort-end}
+use native.Mathlib.Omega.{arith}
 use Rattle.sort.proofs.sort_rows.Statement.{statement}
 use Rattle.sort.proofs.sort_rows.Tie as tie
 
 abbrev Inv-loop : tie.InvT-loop
-Inv-loop part₀ count others₀ part others = (others ≤ count) × (length part ≡ 512) × (part ≡ sortedPart count (count - others) part₀)
+Inv-loop part₀ count w end others₀ part others = (others ≤ count) × (length part ≡ 32 * w) × (part ≡ sortedPart w count (count - others) part₀)
 
 abbrev μ-loop : tie.MeasureT-loop
-μ-loop part₀ count others₀ part others = count - others
+μ-loop part₀ count w end others₀ part others = count - others
+
+-- the rows end within the part, and so does row k
+all-rows : (c : tie.Start Inv-loop μ-loop) → (c .args .w * c .args .count ≤ 32 * c .args .w) × (c .args .w ≤ 32)
+all-rows c =
+    let within : c .args .w * c .args .count ≤ c .args .w * 32 = mul-le-mul-left (c .args .w) (omega arith) in
+    (omega arith, c .pre .0 .narrow)
+
+row-end : (c : tie.In-loop Inv-loop μ-loop) → let args = c .before .before .before .args in args .w * (args .count - 1 - c .before .loop .others) + args .w ≤ args .w * args .count
+row-end c =
+    let args = c .before .before .before .args in
+    row-within (args .w) (args .count - 1 - c .before .loop .others) (args .count) (omega arith)
+
+mul-end : tie.Need-mul-end Inv-loop μ-loop
+mul-end c = omega (arith, all-rows (c .before))
 
 loop-holds : tie.Need-loop-holds Inv-loop μ-loop
 loop-holds c =
-    let args = c .before .args in
-    (omega arith, omega arith, sort-start (args .count) (args .part .now) (omega arith) (c .before .pre .2) (args .count - 0) (omega arith))
+    let start = c .before in
+    (omega arith, start .pre .1, sort-start (start .args .w) (start .args .count) (start .args .part .now) (omega (arith, all-rows start)) (start .pre .3) (start .args .count - 0) (omega arith))
 
-sub-k : tie.Need-sub-k Inv-loop μ-loop
-sub-k c = search needs
+sub-at : tie.Need-sub-at Inv-loop μ-loop
+sub-at c = search needs
 
-sub-k-2 : tie.Need-sub-k-2 Inv-loop μ-loop
-sub-k-2 c = search needs
+sub-at-2 : tie.Need-sub-at-2 Inv-loop μ-loop
+sub-at-2 c = search needs
+
+mul-at : tie.Need-mul-at Inv-loop μ-loop
+mul-at c = omega (arith, all-rows (c .before .before .before), row-end c)
 
 mul-insert-first : tie.Need-mul-insert-first Inv-loop μ-loop
-mul-insert-first c = search needs
-
-mul-insert-first-2 : tie.Need-mul-insert-first-2 Inv-loop μ-loop
-mul-insert-first-2 c = search needs
-
-mul-insert-first-3 : tie.Need-mul-insert-first-3 Inv-loop μ-loop
-mul-insert-first-3 c = search needs
+mul-insert-first c = omega (arith, all-rows (c .before .before .before), row-end c)
 
 sub-insert-first : tie.Need-sub-insert-first Inv-loop μ-loop
-sub-insert-first c = search needs
+sub-insert-first c = omega (arith, all-rows (c .before .before .before), row-end c)
 
 part-insert-first-start : tie.Need-part-insert-first-start Inv-loop μ-loop
-part-insert-first-start c = search needs
+part-insert-first-start c = omega (arith, all-rows (c .before .before .before), row-end c)
 
 part-insert-first-end : tie.Need-part-insert-first-end Inv-loop μ-loop
-part-insert-first-end c = search needs
+part-insert-first-end c = omega (arith, all-rows (c .before .before .before), row-end c)
 
 insert-first-requires : tie.Need-insert-first-requires Inv-loop μ-loop
 insert-first-requires c κs =
@@ -49,8 +62,9 @@ insert-first-requires c κs =
     let start = c .before .before .before .before in
     let k = start .args .count - 1 - at .others in
     let from = start .args .count - at .others in (
-      lent-fits (start .args .count) (start .args .part .now) (omega arith) (start .pre .2) from k (omega arith) (omega arith) (at .inv .2) (at .others) (omega arith),
-      lent-once (start .args .count) (start .args .part .now) (omega arith) (start .pre .2) from k (omega arith) (omega arith) (at .inv .2) (at .others) (omega arith),
+      start .pre .0,
+      lent-fits (start .args .w) (start .args .count) (start .args .part .now) (omega (arith, all-rows start)) (start .pre .3) from k (omega arith) (omega arith) (at .inv .2) (at .others) (omega arith),
+      lent-once (start .args .w) (start .args .count) (start .args .part .now) (omega (arith, all-rows start)) (start .pre .3) from k (omega arith) (omega arith) (at .inv .2) (at .others) (omega arith),
     )
 
 add-others : tie.Need-add-others Inv-loop μ-loop
@@ -67,23 +81,23 @@ loop-again c =
     let from = start .args .count - at .others in (
       omega arith,
       search needs,
-      sort-turn (start .args .count) (start .args .part .now) (omega arith) (start .pre .2) from k (omega arith) (omega arith) (at .inv .2) (at .others) (omega arith) (start .args .count - (at .others + 1)) (omega arith) (c .before .before .insert-first .ensures),
+      sort-turn (start .args .w) (start .args .count) (start .args .part .now) (omega (arith, all-rows start)) (start .pre .3) from k (omega arith) (omega arith) (at .inv .2) (at .others) (omega arith) (start .args .count - (at .others + 1)) (omega arith) (c .before .before .insert-first .ensures),
     )
 
 mul-fill-with : tie.Need-mul-fill-with Inv-loop μ-loop
-mul-fill-with c = search needs
+mul-fill-with c = omega (arith, all-rows (c .before .before .before))
 
 mul-fill-with-2 : tie.Need-mul-fill-with-2 Inv-loop μ-loop
-mul-fill-with-2 c = search needs
+mul-fill-with-2 c = omega (arith, all-rows (c .before .before .before))
 
 sub-fill-with : tie.Need-sub-fill-with Inv-loop μ-loop
-sub-fill-with c = search needs
+sub-fill-with c = omega (arith, all-rows (c .before .before .before))
 
 part-fill-with-start : tie.Need-part-fill-with-start Inv-loop μ-loop
-part-fill-with-start c = search needs
+part-fill-with-start c = omega (arith, all-rows (c .before .before .before))
 
 part-fill-with-end : tie.Need-part-fill-with-end Inv-loop μ-loop
-part-fill-with-end c = search needs
+part-fill-with-end c = omega (arith, all-rows (c .before .before .before))
 
 fill-with-requires : tie.Need-fill-with-requires Inv-loop μ-loop
 fill-with-requires c κs = search needs
@@ -95,7 +109,7 @@ returns : tie.Need-returns Inv-loop μ-loop
 returns c =
     let at = c .before .before .before .before .before .loop in
     let start = c .before .before .before .before .before .before .before in
-    sort-end (start .args .count) (start .args .part .now) (start .pre .0) (start .pre .1) (start .pre .2) (start .args .count - at .others) (omega arith) (at .inv .2) (c .before .before .fill-with .ensures)
+    sort-end (start .args .w) (start .args .count) (start .args .part .now) (start .pre .1) (all-rows start .0) (start .pre .3) (start .args .count - at .others) (omega arith) (at .inv .2) (c .before .before .fill-with .ensures)
 
 pub sort-rows-spec : {M : Type 1} → statement M
 sort-rows-spec =
@@ -103,12 +117,12 @@ sort-rows-spec =
     (tie.spec
     Inv-loop
     μ-loop
+    mul-end
     loop-holds
-    sub-k
-    sub-k-2
+    sub-at
+    sub-at-2
+    mul-at
     mul-insert-first
-    mul-insert-first-2
-    mul-insert-first-3
     sub-insert-first
     part-insert-first-start
     part-insert-first-end

@@ -3,17 +3,17 @@ use mathlib.Core.Path.{_≡_, refl, sym, _∙_}
 use Prim.Native.Nat.{_-_, _≤_}
 use native.Mathlib.Omega.{arith}
 use borrow.Author.Needs.{needs}
-use lib.ListN.{drop}
+use lib.ListN.{length, drop}
 use Rattle.model.specs.Order.{before}
 use Rattle.sort.proofs.Order.{before-less, before-more, before-same, before-end}
 use Rattle.sort.proofs.stands_before.Statement.{statement}
 use Rattle.sort.proofs.stands_before.Tie as tie
 
 abbrev Inv-loop : tie.InvT-loop
-Inv-loop row other i₀ i = (i ≤ 16) × (before (drop i row) (drop i other) ≡ before row other)
+Inv-loop row other i₀ i-end i = (i ≤ length row) × (before (drop i row) (drop i other) ≡ before row other)
 
 abbrev μ-loop : tie.MeasureT-loop
-μ-loop row other i₀ i = 16 - i
+μ-loop row other i₀ i-end i = length row - i
 
 loop-holds : tie.Need-loop-holds Inv-loop μ-loop
 loop-holds c = (omega arith, refl)

@@ -28,14 +28,14 @@ Inv-loop n t numbers out₀ tasks next₀ i₀ out next i =
 abbrev μ-loop : tie.MeasureT-loop
 μ-loop n t numbers out₀ tasks next₀ i₀ out next i = tasks - i
 
-wide-requires : tie.Need-wide-requires Inv-loop μ-loop
-wide-requires c κs = search needs
+byte-number-requires : tie.Need-byte-number-requires Inv-loop μ-loop
+byte-number-requires c κs = search needs
 
 slice-aggregate-put-two : tie.Need-slice-aggregate-put-two Inv-loop μ-loop
 slice-aggregate-put-two c = search needs
 
-wide-requires-2 : tie.Need-wide-requires-2 Inv-loop μ-loop
-wide-requires-2 c κs = search needs
+byte-number-requires-2 : tie.Need-byte-number-requires-2 Inv-loop μ-loop
+byte-number-requires-2 c κs = search needs
 
 slice-aggregate-put-two-2 : tie.Need-slice-aggregate-put-two-2 Inv-loop μ-loop
 slice-aggregate-put-two-2 c = search needs
@@ -43,7 +43,7 @@ slice-aggregate-put-two-2 c = search needs
 put-two-requires : tie.Need-put-two-requires Inv-loop μ-loop
 put-two-requires c κs =
     let start = c .before .before .before .before .before .before .before in
-    omega (arith, start .pre .2, two-short cacheWord tasksWord (c .before .wide2 .result) (c .before .before .before .before .wide .result))
+    omega (arith, start .pre .2, two-short cacheWord tasksWord (c .before .byte-number2 .result) (c .before .before .before .before .byte-number .result))
 
 loop-holds : tie.Need-loop-holds Inv-loop μ-loop
 loop-holds c = rw sub-zero (omega arith, refl, refl, refl)
@@ -52,12 +52,12 @@ put-row-requires : tie.Need-put-row-requires Inv-loop μ-loop
 put-row-requires c κs =
     let at = c .before .before .loop in
     let start = c .before .before .before .before .before .before .before .before .before .before .before .before .before in
-    let t = c .before .before .before .before .before .before .before .before .before .before .wide .result in
+    let t = c .before .before .before .before .before .before .before .before .before .before .byte-number .result in
     let head = c .before .before .before .before .before .put-two in
     let rest = rowsText (start .args .numbers .now) t (t - (at .i + 1)) (at .i + 1) in (
       omega (
         arith,
-        room (start .args .numbers .now) (c .before .before .before .before .before .before .before .wide2 .result) (omega (arith, start .pre .0)) (start .pre .2) (head .ensures .0) (head .kept .0),
+        room (start .args .numbers .now) (c .before .before .before .before .before .before .before .byte-number2 .result) (omega (arith, start .pre .0)) (start .pre .2) (head .ensures .0) (head .kept .0),
         at .inv,
         ap length (rows-next (start .args .numbers .now) t (at .i) (omega arith)),
         length-append (rowText (start .args .numbers .now) (at .i) t 0) rest,
@@ -78,9 +78,9 @@ loop-again c =
     let at = c .before .before .before .before .before .loop in
     let start = c .before .before .before .before .before .before .before .before .before .before .before .before .before .before .before .before in
     let numbers = start .args .numbers .now in
-    let t = c .before .before .before .before .before .before .before .before .before .before .before .before .before .wide .result in
+    let t = c .before .before .before .before .before .before .before .before .before .before .before .before .before .byte-number .result in
     let head = c .before .before .before .before .before .before .before .before .put-two in
-    let space = room numbers (c .before .before .before .before .before .before .before .before .before .before .wide2 .result) (omega (arith, start .pre .0)) (start .pre .2) (head .ensures .0) (head .kept .0) in
+    let space = room numbers (c .before .before .before .before .before .before .before .before .before .before .byte-number2 .result) (omega (arith, start .pre .0)) (start .pre .2) (head .ensures .0) (head .kept .0) in
     let turn =
     placed-turn (at .out) (at .next) (rowsText numbers t (t - at .i) (at .i)) (rowText numbers (at .i) t 0) (rowsText numbers t (t - (at .i + 1)) (at .i + 1))
     (rows-next numbers t (at .i) (omega arith)) (omega (arith, space, at .inv)) (c .before .before .put-row .ensures) (at .inv .2) (at .inv .3) in
@@ -95,8 +95,8 @@ returns c =
     let start = c .before .before .before .before .before .before .before .before .before .before .before .before in
     let args = start .args in
     let numbers = args .numbers .now in
-    let n = c .before .before .before .before .before .before .wide2 in
-    let t = c .before .before .before .before .before .before .before .before .before .wide in
+    let n = c .before .before .before .before .before .before .byte-number2 in
+    let t = c .before .before .before .before .before .before .before .before .before .byte-number in
     let head = c .before .before .before .before .put-two in
     let rows =
     placed-end (at .out) (at .next) (rowsText numbers (t .result) (t .result - at .i) (at .i)) (rows-none numbers (t .result) (at .i) (omega arith))
@@ -115,9 +115,9 @@ table-text-spec =
     (tie.spec
     Inv-loop
     μ-loop
-    wide-requires
+    byte-number-requires
     slice-aggregate-put-two
-    wide-requires-2
+    byte-number-requires-2
     slice-aggregate-put-two-2
     put-two-requires
     loop-holds

@@ -1,9 +1,10 @@
 -- `block::block_end` meets its contract: the test of the block, on the bytes behind its counts, decides.
+use mathlib.Core.Bool.{cond}
 use mathlib.Core.Path.{_≡_}
 use Prim.Native.Nat.{_+_, _*_}
 use native.Mathlib.Omega.{arith}
 use borrow.Author.Needs.{needs}
-use Rattle.body.specs.BlockEnd.{pickEnd, blockEnd}
+use Rattle.body.specs.BlockEnd.{blockEnd}
 use Rattle.body.specs.declared.block.BlockEnd.the-variants.{At, Broken}
 use Rattle.body.proofs.WalksBlock.{end-short, end-is}
 use Rattle.body.proofs.block.block_end.Statement.{statement}
@@ -17,23 +18,23 @@ returns c =
     let args = c .before .before .args in
     end-short (args .blocks) (args .at) (args .body .now) (c .if1 .taken)
 
-add-count : tie.Need-add-count
-add-count c = omega arith
+add-byte-count : tie.Need-add-byte-count
+add-byte-count c = omega arith
 
-shared-slice-read-count : tie.Need-shared-slice-read-count
-shared-slice-read-count c = omega arith
+shared-slice-read-byte-count : tie.Need-shared-slice-read-byte-count
+shared-slice-read-byte-count c = omega arith
 
-count-requires : tie.Need-count-requires
-count-requires c κs = search needs
+byte-count-requires : tie.Need-byte-count-requires
+byte-count-requires c κs = search needs
 
-add-count-2 : tie.Need-add-count-2
-add-count-2 c = omega arith
+add-byte-count-2 : tie.Need-add-byte-count-2
+add-byte-count-2 c = omega arith
 
-shared-slice-read-count-2 : tie.Need-shared-slice-read-count-2
-shared-slice-read-count-2 c = omega arith
+shared-slice-read-byte-count-2 : tie.Need-shared-slice-read-byte-count-2
+shared-slice-read-byte-count-2 c = omega arith
 
-count-requires-2 : tie.Need-count-requires-2
-count-requires-2 c κs = search needs
+byte-count-requires-2 : tie.Need-byte-count-requires-2
+byte-count-requires-2 c κs = search needs
 
 shared-slice-read-block-kept : tie.Need-shared-slice-read-block-kept
 shared-slice-read-block-kept c = omega arith
@@ -62,12 +63,12 @@ add-t19 c = omega arith
 -- what the test of the block tells of its end
 told : (c : tie.After-block-kept)
     → let args = c .before .before .before .before .before .before .before .before .before .args in
-    let end = args .at + 3 + c .before .before .before .before .before .count .result + 2 * c .before .before .before .count2 .result in
-    pickEnd (c .block-kept .result) (At end) Broken ≡ blockEnd (args .blocks) (args .at) (args .body .now)
+    let end = args .at + 3 + c .before .before .before .before .before .byte-count .result + 2 * c .before .before .before .byte-count2 .result in
+    cond (c .block-kept .result) (At end) Broken ≡ blockEnd (args .blocks) (args .at) (args .body .now)
 told c =
     let args = c .before .before .before .before .before .before .before .before .before .args in
-    let successors = c .before .before .before .before .before .count .ensures .0 in
-    let references = c .before .before .before .count2 .ensures .0 in
+    let successors = c .before .before .before .before .before .byte-count .ensures .0 in
+    let references = c .before .before .before .byte-count2 .ensures .0 in
     end-is (args .blocks) (args .at) (args .body .now) (omega arith) successors references (c .block-kept .ensures)
 
 returns-2 : tie.Need-returns-2
@@ -82,12 +83,12 @@ block-end-spec =
     (tie.spec
     add-from
     returns
-    add-count
-    shared-slice-read-count
-    count-requires
-    add-count-2
-    shared-slice-read-count-2
-    count-requires-2
+    add-byte-count
+    shared-slice-read-byte-count
+    byte-count-requires
+    add-byte-count-2
+    shared-slice-read-byte-count-2
+    byte-count-requires-2
     shared-slice-read-block-kept
     sub-block-kept
     part-block-kept-start

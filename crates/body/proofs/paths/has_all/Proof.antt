@@ -1,12 +1,12 @@
 -- `paths::has_all` meets its contract: each block passed is in the set. Assumes nothing.
 use mathlib.Core.Path.{_≡_, sym, ap, _∙_}
 use mathlib.Core.Bool.{true}
-use mathlib.Core.List.{[]}
 use Prim.Native.Nat.{_≤_, _-_}
 use native.Mathlib.Omega.{arith}
 use borrow.Author.Needs.{needs}
 use Rattle.body.specs.Jumps.{hasBelow}
-use Rattle.body.proofs.Passes.{in-set, not-in-set, below-more, below-not}
+use Rattle.cache.proofs.Members.{in-word, out-word}
+use Rattle.body.proofs.BlockSets.{below-more, below-not}
 use Rattle.body.proofs.paths.has_all.Statement.{statement}
 use Rattle.body.proofs.paths.has_all.Tie as tie
 
@@ -29,7 +29,7 @@ returns : tie.Need-returns Inv-loop μ-loop
 returns c =
     let at = c .before .before .loop in
     let start = c .before .before .before in
-    sym (below-not (start .args .set) (start .args .count) (at .b) (omega arith) (not-in-set [] (start .args .count) (at .b) (omega arith) (start .pre) (start .args .set) (c .if1 .taken)))
+    sym (below-not (start .args .set) (start .args .count) (at .b) (omega arith) (out-word 32 (start .args .set) (at .b) (omega arith) (c .if1 .taken)))
 
 add-b : tie.Need-add-b Inv-loop μ-loop
 add-b c = search needs
@@ -42,7 +42,7 @@ loop-again c =
     let at = c .before .before .loop in
     let start = c .before .before .before in (
       omega arith,
-      below-more (start .args .set) (at .b) (in-set [] (start .args .count) (at .b) (omega arith) (start .pre) (start .args .set) (c .if1 .left)) (at .inv .1),
+      below-more (start .args .set) (at .b) (in-word 32 (start .args .set) (at .b) (omega arith) (c .if1 .left)) (at .inv .1),
     )
 
 returns-2 : tie.Need-returns-2 Inv-loop μ-loop

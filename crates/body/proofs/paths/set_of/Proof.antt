@@ -6,10 +6,9 @@ use lib.ListN.{length, take}
 use lib.Seq.{take-all}
 use borrow.Author.Needs.{needs}
 use Rattle.body.specs.Jumps.{setOf}
-use Rattle.body.proofs.Passes.{set-none, set-turn, below-at}
+use Rattle.body.proofs.BlockSets.{set-none, set-turn, below-at}
 use Rattle.body.proofs.paths.set_of.Statement.{statement}
 use Rattle.body.proofs.paths.set_of.Tie as tie
-use Rattle.body.proofs.paths.widened.Reads as widened-reads
 
 abbrev Inv-loop : tie.InvT-loop
 Inv-loop blocks set₀ i₀ i-end set i = (i ≤ length blocks) × (set ≡ setOf (take i blocks))
@@ -20,17 +19,17 @@ abbrev μ-loop : tie.MeasureT-loop
 loop-holds : tie.Need-loop-holds Inv-loop μ-loop
 loop-holds c = (omega arith, sym set-none)
 
-shared-slice-read-widened : tie.Need-shared-slice-read-widened Inv-loop μ-loop
-shared-slice-read-widened c = search needs
+shared-slice-read-byte-word : tie.Need-shared-slice-read-byte-word Inv-loop μ-loop
+shared-slice-read-byte-word c = search needs
 
-widened-requires : tie.Need-widened-requires Inv-loop μ-loop
-widened-requires c κs = search needs
+byte-word-requires : tie.Need-byte-word-requires Inv-loop μ-loop
+byte-word-requires c κs = search needs
 
 shl-set : tie.Need-shl-set Inv-loop μ-loop
 shl-set c =
     let at = c .before .before .before .loop in
     let start = c .before .before .before .before .before in
-    omega (arith, c .widened .ensures .0, below-at (start .args .blocks .now) (at .i) 24 (start .pre) (omega arith))
+    omega (arith, c .byte-word .ensures .0, below-at (start .args .blocks .now) (at .i) 24 (start .pre) (omega arith))
 
 add-i : tie.Need-add-i Inv-loop μ-loop
 add-i c = search needs
@@ -45,7 +44,7 @@ loop-again c =
     let l = start .args .blocks .now in
     let small = below-at l (at .i) 24 (start .pre) (omega arith) in (
       omega arith,
-      set-turn l (at .i) (omega arith) (sym (c .widened .ensures .0)) (omega (arith, c .widened .ensures .0)) (at .inv .1) refl,
+      set-turn l (at .i) (omega arith) (sym (c .byte-word .ensures .0)) (omega (arith, c .byte-word .ensures .0)) (at .inv .1) refl,
     )
 
 returns : tie.Need-returns Inv-loop μ-loop
@@ -61,8 +60,8 @@ set-of-spec =
     Inv-loop
     μ-loop
     loop-holds
-    shared-slice-read-widened
-    widened-requires
+    shared-slice-read-byte-word
+    byte-word-requires
     shl-set
     add-i
     loop-less

@@ -4,20 +4,20 @@ use native.Mathlib.Omega.{arith}
 use Rattle.cache.proofs.references.number_at.Statement.{statement}
 use Rattle.cache.proofs.references.number_at.Tie as tie
 
-shared-slice-read-widened : tie.Need-shared-slice-read-widened
-shared-slice-read-widened c = search needs
+shared-slice-read-byte-number : tie.Need-shared-slice-read-byte-number
+shared-slice-read-byte-number c = search needs
 
-widened-requires : tie.Need-widened-requires
-widened-requires c κs = search needs
+byte-number-requires : tie.Need-byte-number-requires
+byte-number-requires c κs = search needs
 
-add-widened : tie.Need-add-widened
-add-widened c = search needs
+add-byte-number : tie.Need-add-byte-number
+add-byte-number c = search needs
 
-shared-slice-read-widened-2 : tie.Need-shared-slice-read-widened-2
-shared-slice-read-widened-2 c = search needs
+shared-slice-read-byte-number-2 : tie.Need-shared-slice-read-byte-number-2
+shared-slice-read-byte-number-2 c = search needs
 
-widened-requires-2 : tie.Need-widened-requires-2
-widened-requires-2 c κs = search needs
+byte-number-requires-2 : tie.Need-byte-number-requires-2
+byte-number-requires-2 c κs = search needs
 
 mul-result : tie.Need-mul-result
 mul-result c = search needs
@@ -32,11 +32,11 @@ pub number-at-spec : {M : Type 1} → statement M
 number-at-spec =
     tie.close
     (tie.spec
-    shared-slice-read-widened
-    widened-requires
-    add-widened
-    shared-slice-read-widened-2
-    widened-requires-2
+    shared-slice-read-byte-number
+    byte-number-requires
+    add-byte-number
+    shared-slice-read-byte-number-2
+    byte-number-requires-2
     mul-result
     add-result
     returns)

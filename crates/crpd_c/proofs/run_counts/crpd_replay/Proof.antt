@@ -20,14 +20,17 @@ replay-requires c κs = search needs
 enum-known-undisturbed : tie.Need-enum-known-undisturbed
 enum-known-undisturbed c = search needs
 
+cast-put-counts : tie.Need-cast-put-counts
+cast-put-counts c = search needs
+
 put-counts-requires : tie.Need-put-counts-requires
 put-counts-requires c κs = search needs
 
 enum-known-check : tie.Need-enum-known-check
 enum-known-check c = search needs
 
-count-requires : tie.Need-count-requires
-count-requires c κs = search needs
+byte-word-requires : tie.Need-byte-word-requires
+byte-word-requires c κs = search needs
 
 put-counts-requires-2 : tie.Need-put-counts-requires-2
 put-counts-requires-2 c κs = search needs
@@ -50,7 +53,7 @@ returns-3 c =
     let answer = c .before .before .before .before .before .before .before .before .before .before .before .before .before .args .answer .now in
     let h = c .before .before .before .before .before .before .before .before .before .if1 .left in
     let e = sym (c .before .before .before .before .before .before .before .before .replay .ensures) ∙ c .before .before .before .before .before .before .check .given .1 in
-    let named = ap (λ (x : ℕ). x ∷ 0 ∷ 0 ∷ []) (c .before .before .before .count .ensures) in
+    let named = ap (λ (x : ℕ). x ∷ 0 ∷ 0 ∷ []) (c .before .before .before .byte-word .ensures .0) in
     (status 3 answer h (sym (ap statusOfReplaying e)), leaving 3 answer h answer (c .before .before .put-counts2 .ensures ∙ named ∙ sym (ap numbersOfReplaying e)))
 
 pub crpd-replay-spec : {M : Type 1} → statement M
@@ -60,9 +63,10 @@ crpd-replay-spec =
     returns
     replay-requires
     enum-known-undisturbed
+    cast-put-counts
     put-counts-requires
     enum-known-check
-    count-requires
+    byte-word-requires
     put-counts-requires-2
     same-length
     returns-2

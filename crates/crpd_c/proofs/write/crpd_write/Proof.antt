@@ -18,14 +18,17 @@ write-requires c κs = search needs
 enum-known-length : tie.Need-enum-known-length
 enum-known-length c = search needs
 
+cast-put-two : tie.Need-cast-put-two
+cast-put-two c = search needs
+
 put-two-requires : tie.Need-put-two-requires
 put-two-requires c κs = search needs
 
 enum-known-check : tie.Need-enum-known-check
 enum-known-check c = search needs
 
-count-requires : tie.Need-count-requires
-count-requires c κs = search needs
+byte-count-requires : tie.Need-byte-count-requires
+byte-count-requires c κs = search needs
 
 put-two-requires-2 : tie.Need-put-two-requires-2
 put-two-requires-2 c κs = search needs
@@ -52,7 +55,7 @@ returns-3 : tie.Need-returns-3
 returns-3 c =
     let args = c .before .before .before .before .before .before .before .before .before .before .before .before .before .before .before .before .before .args in
     let call = c .before .before .before .before .before .before .before .before .before .before .write .ensures in
-    written (args .n) (args .bodies .now) (args .lengths .now) (args .out .now) (args .answer .now) (c .before .before .before .before .before .before .before .before .before .before .before .before .if1 .left) (call .0) (c .before .before .before .before .before .before .check .given .1) (call .1) (both (c .before .before .put-two2 .ensures) (c .before .before .before .count .ensures) refl)
+    written (args .n) (args .bodies .now) (args .lengths .now) (args .out .now) (args .answer .now) (c .before .before .before .before .before .before .before .before .before .before .before .before .if1 .left) (call .0) (c .before .before .before .before .before .before .check .given .1) (call .1) (both (c .before .before .put-two2 .ensures) (c .before .before .before .byte-count .ensures .0) refl)
 
 pub crpd-write-spec : {M : Type 1} → statement M
 crpd-write-spec =
@@ -61,9 +64,10 @@ crpd-write-spec =
     returns
     write-requires
     enum-known-length
+    cast-put-two
     put-two-requires
     enum-known-check
-    count-requires
+    byte-count-requires
     put-two-requires-2
     same-length
     same-length-2

@@ -4,7 +4,7 @@ use Prim.Native.Nat.{_-_, _≤_}
 use native.Mathlib.Omega.{arith}
 use borrow.Author.Needs.{needs}
 use lib.ListN.{length, take, replicate, length-set}
-use Rattle.gather.proofs.Waiting.{clear-turn, clear-end}
+use Rattle.gather.proofs.Clearing.{clear-turn, clear-end}
 use Rattle.gather.proofs.gather.clear.Statement.{statement}
 use Rattle.gather.proofs.gather.clear.Tie as tie
 

@@ -1,46 +1,68 @@
 -- `task_rows::reaching_rows` meets its contract: what is gathered along the graph of the body's task are its reaching states. Assumes nothing.
--- The idea: the walked body is the body of a task, whose jump sets and last references make the graph.
-use mathlib.Core.Path.{_≡_, ap, _∙_}
-use lib.ListN.{length}
-use Rattle.body.specs.Jumps.{jumpSets}
-use Rattle.body.proofs.JumpLaws.{WalkedTask, walked-task}
+use mathlib.Core.Path.{_≡_}
+use Prim.Native.Nat.{_*_}
+use native.Mathlib.Omega.{arith}
+use lib.ListN.{length, replicate}
+use Rattle.cache.specs.Shape.{shaped}
+use Rattle.body.specs.Decode.{decode, taskOf}
+use Rattle.rows.proofs.Parts.{lent-front, front-long, front-room}
 use Rattle.graphs.specs.Graphs.{lastRows}
-use Rattle.graphs.proofs.Gathered.{nothings, reach-input, reaching-kind}
+use Rattle.graphs.proofs.Prepared.{last-full}
+use Rattle.graphs.proofs.Gathered.{nothings, kept-bounds, reach-input, reaching-kind}
 use borrow.Author.Needs.{needs}
 use Rattle.graphs.proofs.task_rows.reaching_rows.Statement.{statement}
 use Rattle.graphs.proofs.task_rows.reaching_rows.Tie as tie
 
--- the task of the body
-facts : (c : tie.After-walk) → WalkedTask (c .before .before .before .before .args .body .now) (c .walk .result .blocks) (c .walk .result .starts)
-facts c = walked-task _ _ _ (c .before .before .before .before .pre .0) (c .walk .ensures .1) (c .walk .ensures .2)
+mul-room : tie.Need-mul-room
+mul-room c = search needs
 
-walk-requires : tie.Need-walk-requires
-walk-requires c κs = search needs
+sub-graphs : tie.Need-sub-graphs
+sub-graphs c = search needs
 
-slice-aggregate-prepare : tie.Need-slice-aggregate-prepare
-slice-aggregate-prepare c = search needs
+part-first-start : tie.Need-part-first-start
+part-first-start c = search needs
 
-slice-aggregate-prepare-2 : tie.Need-slice-aggregate-prepare-2
-slice-aggregate-prepare-2 c = search needs
+part-first-end : tie.Need-part-first-end
+part-first-end c = search needs
 
-prepare-requires : tie.Need-prepare-requires
-prepare-requires c κs =
-    let start = c .before .before .before .before .before .before in
-    let walked = c .before .before .walk in
-    (start .pre .0, walked .ensures .1, walked .ensures .2, start .pre .1, start .pre .2, nothings, nothings)
+sub-graphs-2 : tie.Need-sub-graphs-2
+sub-graphs-2 c = search needs
 
-jumps-requires : tie.Need-jumps-requires
-jumps-requires c κs = search needs
+part-last-start : tie.Need-part-last-start
+part-last-start c = search needs
 
-slice-aggregate-gather-reaching : tie.Need-slice-aggregate-gather-reaching
-slice-aggregate-gather-reaching c = search needs
+part-last-end : tie.Need-part-last-end
+part-last-end c = search needs
+
+graphs-requires : tie.Need-graphs-requires
+graphs-requires c κs =
+    let start = c .before .before .before .before .before in
+    let none = nothings (24 * start .args .w) 768 (omega (arith, start .pre .2 .narrow)) in
+    (start .pre .0, start .pre .1, start .pre .2, none, none)
+
+sub-gather-reaching : tie.Need-sub-gather-reaching
+sub-gather-reaching c = search needs
+
+part-gather-reaching-start : tie.Need-part-gather-reaching-start
+part-gather-reaching-start c = search needs
+
+part-gather-reaching-end : tie.Need-part-gather-reaching-end
+part-gather-reaching-end c =
+    let start = c .before .before .before .before .before .before .before .before .before .before in
+    let few = kept-bounds (start .args .body .now) (start .pre .0) .few in
+    omega (arith, front-room (24 * start .args .w) (replicate 768 65535) (lastRows (shaped (start .args .w) (start .args .shape)) (taskOf (decode (start .args .body .now)))) (c .before .before .before .before .graphs .ensures .3) (last-full (shaped (start .args .w) (start .args .shape)) (taskOf (decode (start .args .body .now))) few))
 
 gather-reaching-requires : tie.Need-gather-reaching-requires
 gather-reaching-requires c κs =
     let start = c .before .before .before .before .before .before .before .before .before .before .before .before .before in
-    let f = facts (c .before .before .before .before .before .before .before .before .before) in
-    let each : length (c .before .before .before .jumps .result) ≡ 24 = search needs in
-    reach-input (f .its) (f .bounds) (f .long) each (search needs) (start .pre .3) (start .pre .4)
+    let w = start .args .w in
+    let k = shaped w (start .args .shape) in
+    let t = taskOf (decode (start .args .body .now)) in
+    let bounds = kept-bounds (start .args .body .now) (start .pre .0) in
+    let found = c .before .before .before .before .before .before .before .graphs .ensures in
+    let each : length (c .before .before .before .before .before .before .before .graphs .result .sets) ≡ 24 = search needs in
+    reach-input w _ (start .pre .2) (omega (arith, bounds .some, found .0)) (omega (arith, bounds .few, found .0)) each (start .pre .3) (start .pre .4)
+    (front-long (24 * w) (replicate 768 65535) (lastRows k t) (c .before .before .before .before .before .before .before .graphs .ensures .3) (last-full k t (bounds .few)))
 
 same-length : tie.Need-same-length
 same-length c = search needs
@@ -50,21 +72,29 @@ same-length-2 c = search needs
 
 returns : tie.Need-returns
 returns c =
-    let n = c .before .before .before .before .before .before .before .before .before .before .before .before .before .before .before .before .before .before .args .n in
-    let f = facts (c .before .before .before .before .before .before .before .before .before .before .before .before .before .before) in
-    rw (f .same) (reaching-kind n (f .its) (f .bounds) (f .long) (c .before .before .before .before .before .before .before .before .jumps .ensures ∙ ap jumpSets (f .same)) (c .before .before .before .before .before .before .before .before .before .before .before .prepare .ensures .1 ∙ ap (lastRows n) (f .same))
-    (c .before .before .before .before .gather-reaching .ensures))
+    let start = c .before .before .before .before .before .before .before .before .before .before .before .before .before .before .before .before .before .before in
+    let w = start .args .w in
+    let k = shaped w (start .args .shape) in
+    let t = taskOf (decode (start .args .body .now)) in
+    let bounds = kept-bounds (start .args .body .now) (start .pre .0) in
+    let found = c .before .before .before .before .before .before .before .before .before .before .before .before .graphs .ensures in
+    reaching-kind k t bounds (found .0) (found .1) (lent-front (24 * w) (replicate 768 65535) (lastRows k t) (c .before .before .before .before .before .before .before .before .before .before .before .before .graphs .ensures .3) (last-full k t (bounds .few))) (c .before .before .before .before .gather-reaching .ensures)
 
 pub reaching-rows-spec : {M : Type 1} → statement M
 reaching-rows-spec =
     tie.close
     (tie.spec
-    walk-requires
-    slice-aggregate-prepare
-    slice-aggregate-prepare-2
-    prepare-requires
-    jumps-requires
-    slice-aggregate-gather-reaching
+    mul-room
+    sub-graphs
+    part-first-start
+    part-first-end
+    sub-graphs-2
+    part-last-start
+    part-last-end
+    graphs-requires
+    sub-gather-reaching
+    part-gather-reaching-start
+    part-gather-reaching-end
     gather-reaching-requires
     same-length
     same-length-2

@@ -1,69 +1,85 @@
 -- `task_rows::task_rows` meets its contract: the reaching and the live states are gathered along the two graphs of the body's task. Assumes nothing.
--- The idea: where the reaching states are too many, the answer is known without the live ones; each kind has its part of the area.
-use mathlib.Core.Path.{_≡_, sym, ap, _∙_}
+use Prim.Native.Nat.{_*_}
 use native.Mathlib.Omega.{arith}
-use lib.ListN.{length}
-use lib.Seq.{length-take-le}
-use Rattle.cache.specs.Cache.{wide}
-use Rattle.model.specs.Computed.{reaching}
-use Rattle.body.specs.Jumps.{jumpSets}
-use Rattle.body.proofs.JumpLaws.{WalkedTask, walked-task}
+use lib.ListN.{replicate}
+use Rattle.cache.specs.Shape.{shaped}
+use Rattle.body.specs.Decode.{decode, taskOf}
+use Rattle.rows.proofs.Parts.{lent-front, front-long, front-room}
 use Rattle.graphs.specs.Graphs.{firstRows, lastRows}
-use Rattle.graphs.specs.TaskRows.{KindRows}
-use Rattle.graphs.proofs.Gathered.{nothings, reach-input, live-input, reaching-kind, live-kind, half-long, half-live, whole-long, area-full, area-both}
+use Rattle.graphs.proofs.Prepared.{last-full, first-full}
+use Rattle.graphs.proofs.Gathered.{nothings, kept-bounds, area-rows}
 use borrow.Author.Needs.{needs}
 use Rattle.graphs.proofs.task_rows.task_rows.Statement.{statement}
 use Rattle.graphs.proofs.task_rows.task_rows.Tie as tie
 
--- the task of the body
-facts : (c : tie.After-walk) → WalkedTask (c .before .before .before .before .before .args .body .now) (c .walk .result .blocks) (c .walk .result .starts)
-facts c = walked-task _ _ _ (c .before .before .before .before .before .pre .0) (c .walk .ensures .1) (c .walk .ensures .2)
+mul-room : tie.Need-mul-room
+mul-room c = search needs
 
-walk-requires : tie.Need-walk-requires
-walk-requires c κs = search needs
+sub-graphs : tie.Need-sub-graphs
+sub-graphs c = search needs
 
-slice-aggregate-prepare : tie.Need-slice-aggregate-prepare
-slice-aggregate-prepare c = search needs
+part-first-start : tie.Need-part-first-start
+part-first-start c = search needs
 
-slice-aggregate-prepare-2 : tie.Need-slice-aggregate-prepare-2
-slice-aggregate-prepare-2 c = search needs
+part-first-end : tie.Need-part-first-end
+part-first-end c = search needs
 
-prepare-requires : tie.Need-prepare-requires
-prepare-requires c κs =
-    let start = c .before .before .before .before .before .before .before in
-    let walked = c .before .before .walk in
-    (start .pre .0, walked .ensures .1, walked .ensures .2, start .pre .1, start .pre .2, nothings, nothings)
+sub-graphs-2 : tie.Need-sub-graphs-2
+sub-graphs-2 c = search needs
 
-jumps-requires : tie.Need-jumps-requires
-jumps-requires c κs = search needs
+part-last-start : tie.Need-part-last-start
+part-last-start c = search needs
 
-slice-aggregate-gather-reaching : tie.Need-slice-aggregate-gather-reaching
-slice-aggregate-gather-reaching c = search needs
+part-last-end : tie.Need-part-last-end
+part-last-end c = search needs
 
-sub-gather-reaching : tie.Need-sub-gather-reaching
-sub-gather-reaching c = search needs
+graphs-requires : tie.Need-graphs-requires
+graphs-requires c κs =
+    let start = c .before .before .before .before .before .before in
+    let none = nothings (24 * start .args .w) 768 (omega (arith, start .pre .2 .narrow)) in
+    (start .pre .0, start .pre .1, start .pre .2, none, none)
 
-part-gather-reaching-start : tie.Need-part-gather-reaching-start
-part-gather-reaching-start c = search needs
+sub-gather-both : tie.Need-sub-gather-both
+sub-gather-both c = search needs
 
-part-gather-reaching-end : tie.Need-part-gather-reaching-end
-part-gather-reaching-end c = search needs
+part-gather-both-start : tie.Need-part-gather-both-start
+part-gather-both-start c = search needs
 
-gather-reaching-requires : tie.Need-gather-reaching-requires
-gather-reaching-requires c κs =
-    let start = c .before .before .before .before .before .before .before .before .before .before .before .before .before .before in
-    let f = facts (c .before .before .before .before .before .before .before .before .before) in
-    let each : length (c .before .before .before .jumps .result) ≡ 24 = search needs in
-    reach-input (f .its) (f .bounds) (f .long) each (search needs) (length-take-le 12288 (start .args .area .now) (omega (arith, start .pre .3))) (start .pre .4)
+part-gather-both-end : tie.Need-part-gather-both-end
+part-gather-both-end c =
+    let start = c .before .before .before .before .before .before .before .before .before .before .before in
+    let few = kept-bounds (start .args .body .now) (start .pre .0) .few in
+    omega (arith, front-room (24 * start .args .w) (replicate 768 65535) (firstRows (shaped (start .args .w) (start .args .shape)) (taskOf (decode (start .args .body .now)))) (c .before .before .before .before .graphs .ensures .2) (first-full (shaped (start .args .w) (start .args .shape)) (taskOf (decode (start .args .body .now))) few))
 
--- the reaching states are gathered
-gathered : (c : tie.After-gather-reaching)
-    → let f = facts (c .before .before .before .before .before .before .before .before .before .before) in
-    KindRows (reaching (wide 16 (c .before .before .before .before .before .before .before .before .before .before .before .before .before .before .before .args .n)) (f .its)) (c .gather-reaching .last .1 .1 .1 .0) (c .gather-reaching .last .1 .1 .1 .1 .0) (c .gather-reaching .result)
-gathered c =
-    let n = c .before .before .before .before .before .before .before .before .before .before .before .before .before .before .before .args .n in
-    let f = facts (c .before .before .before .before .before .before .before .before .before .before) in
-    reaching-kind n (f .its) (f .bounds) (f .long) (c .before .before .before .before .jumps .ensures ∙ ap jumpSets (f .same)) (c .before .before .before .before .before .before .before .prepare .ensures .1 ∙ ap (lastRows n) (f .same)) (c .gather-reaching .ensures)
+sub-gather-both-2 : tie.Need-sub-gather-both-2
+sub-gather-both-2 c = search needs
+
+part-gather-both-start-2 : tie.Need-part-gather-both-start-2
+part-gather-both-start-2 c = search needs
+
+part-gather-both-end-2 : tie.Need-part-gather-both-end-2
+part-gather-both-end-2 c =
+    let start = c .before .before .before .before .before .before .before .before .before .before .before .before .before in
+    let few = kept-bounds (start .args .body .now) (start .pre .0) .few in
+    omega (arith, front-room (24 * start .args .w) (replicate 768 65535) (lastRows (shaped (start .args .w) (start .args .shape)) (taskOf (decode (start .args .body .now)))) (c .before .before .before .before .before .before .graphs .ensures .3) (last-full (shaped (start .args .w) (start .args .shape)) (taskOf (decode (start .args .body .now))) few))
+
+gather-both-requires : tie.Need-gather-both-requires
+gather-both-requires c κs =
+    let start = c .before .before .before .before .before .before .before .before .before .before .before .before .before .before .before .before .before in
+    let w = start .args .w in
+    let k = shaped w (start .args .shape) in
+    let t = taskOf (decode (start .args .body .now)) in
+    let bounds = kept-bounds (start .args .body .now) (start .pre .0) in
+    let found = c .before .before .before .before .before .before .before .before .before .before .graphs .ensures in (
+      start .pre .2,
+      omega (arith, bounds .some, found .0),
+      omega (arith, bounds .few, found .0),
+      front-long (24 * w) (replicate 768 65535) (firstRows k t) (c .before .before .before .before .before .before .before .before .before .before .graphs .ensures .2) (first-full k t (bounds .few)),
+      front-long (24 * w) (replicate 768 65535) (lastRows k t) (c .before .before .before .before .before .before .before .before .before .before .graphs .ensures .3) (last-full k t (bounds .few)),
+      start .pre .3,
+      start .pre .4,
+      start .pre .5,
+    )
 
 same-length : tie.Need-same-length
 same-length c = search needs
@@ -71,83 +87,39 @@ same-length c = search needs
 same-length-2 : tie.Need-same-length-2
 same-length-2 c = search needs
 
+same-length-3 : tie.Need-same-length-3
+same-length-3 c = search needs
+
 returns : tie.Need-returns
 returns c =
-    let start = c .before .before .before .before .before .before .before .before .before .before .before .before .before .before .before .before .before .before .before .before in
-    let f = facts (c .before .before .before .before .before .before .before .before .before .before .before .before .before .before .before) in
-    let h = gathered (c .before .before .before .before .before) in
-    rw (f .same) (area-full (start .args .area .now) (c .before .before .before .before .before .gather-reaching .last .1 .1 .1 .0) (start .pre .3) (h .long) (start .args .n) (f .its) (c .if1 .taken) h (start .pre .5))
-
-slice-aggregate-gather-live : tie.Need-slice-aggregate-gather-live
-slice-aggregate-gather-live c = search needs
-
-sub-gather-live : tie.Need-sub-gather-live
-sub-gather-live c = search needs
-
-part-gather-live-start : tie.Need-part-gather-live-start
-part-gather-live-start c = search needs
-
-part-gather-live-end : tie.Need-part-gather-live-end
-part-gather-live-end c =
-    let start = c .before .before .before .before .before .before .before .before .before .before .before .before .before .before .before .before .before .before .before .before .before in
-    let h = gathered (c .before .before .before .before .before .before) in
-    let w = half-long (start .args .area .now) (c .before .before .before .before .before .before .gather-reaching .last .1 .1 .1 .0) (start .pre .3) (h .long) in
-    search needs
-
-gather-live-requires : tie.Need-gather-live-requires
-gather-live-requires c κs =
-    let start = c .before .before .before .before .before .before .before .before .before .before .before .before .before .before .before .before .before .before .before .before .before .before .before in
-    let f = facts (c .before .before .before .before .before .before .before .before .before .before .before .before .before .before .before .before .before .before) in
-    let h = gathered (c .before .before .before .before .before .before .before .before) in
-    let each : length (c .before .before .before .before .before .before .before .before .before .before .before .before .jumps .result) ≡ 24 = search needs in
-    live-input (f .its) (f .bounds) (f .long) each (search needs) (half-live (start .args .area .now) (c .before .before .before .before .before .before .before .before .gather-reaching .last .1 .1 .1 .0) (start .pre .3) (h .long)) (start .pre .5)
-
-same-length-3 : tie.Need-same-length-3
-same-length-3 c =
-    let start = c .before .before .before .before .before .before .before .before .before .before .before .before .before .before .before .before .before .before .before .before .before .before .before .before .before .before .before .before in
-    let h = gathered (c .before .before .before .before .before .before .before .before .before .before .before .before .before) in
-    whole-long (start .args .area .now) (c .before .before .before .before .before .before .before .before .before .before .before .before .before .gather-reaching .last .1 .1 .1 .0) (start .pre .3) (h .long) (c .before .before .before .before .gather-live .last .1 .1 .1 .0) (c .before .before .before .before .gather-live .ensures .long)
-    ∙ sym (start .pre .3)
-
-same-length-4 : tie.Need-same-length-4
-same-length-4 c = search needs
-
-same-length-5 : tie.Need-same-length-5
-same-length-5 c = search needs
-
-returns-2 : tie.Need-returns-2
-returns-2 c =
-    let start = c .before .before .before .before .before .before .before .before .before .before .before .before .before .before .before .before .before .before .before .before .before .before .before .before .before .before .before .before in
-    let n = start .args .n in
-    let f = facts (c .before .before .before .before .before .before .before .before .before .before .before .before .before .before .before .before .before .before .before .before .before .before .before) in
-    let h = gathered (c .before .before .before .before .before .before .before .before .before .before .before .before .before) in
-    let l = live-kind n (f .its) (f .bounds) (f .long) (c .before .before .before .before .before .before .before .before .before .before .before .before .before .before .before .before .before .jumps .ensures ∙ ap jumpSets (f .same)) (c .before .before .before .before .before .before .before .before .before .before .before .before .before .before .before .before .before .before .before .before .prepare .ensures .0 ∙ ap (firstRows n) (f .same)) (c .before .before .before .before .gather-live .ensures) in
-    rw (f .same)
-    (area-both (start .args .area .now) (c .before .before .before .before .before .before .before .before .before .before .before .before .before .gather-reaching .last .1 .1 .1 .0) (start .pre .3) (h .long) (c .before .before .before .before .gather-live .last .1 .1 .1 .0) (l .long) n (f .its) (c .before .before .before .before .before .before .before .before .if1 .left) h l)
+    let start = c .before .before .before .before .before .before .before .before .before .before .before .before .before .before .before .before .before .before .before .before .before .before .before .before in
+    let w = start .args .w in
+    let k = shaped w (start .args .shape) in
+    let t = taskOf (decode (start .args .body .now)) in
+    let bounds = kept-bounds (start .args .body .now) (start .pre .0) in
+    let found = c .before .before .before .before .before .before .before .before .before .before .before .before .before .before .before .before .before .graphs .ensures in
+    area-rows k t bounds (found .0) (found .1) (lent-front (24 * w) (replicate 768 65535) (firstRows k t) (c .before .before .before .before .before .before .before .before .before .before .before .before .before .before .before .before .before .graphs .ensures .2) (first-full k t (bounds .few))) (lent-front (24 * w) (replicate 768 65535) (lastRows k t) (c .before .before .before .before .before .before .before .before .before .before .before .before .before .before .before .before .before .graphs .ensures .3) (last-full k t (bounds .few))) (c .before .before .before .before .before .before .gather-both .ensures)
 
 pub task-rows-spec : {M : Type 1} → statement M
 task-rows-spec =
     tie.close
     (tie.spec
-    walk-requires
-    slice-aggregate-prepare
-    slice-aggregate-prepare-2
-    prepare-requires
-    jumps-requires
-    slice-aggregate-gather-reaching
-    sub-gather-reaching
-    part-gather-reaching-start
-    part-gather-reaching-end
-    gather-reaching-requires
+    mul-room
+    sub-graphs
+    part-first-start
+    part-first-end
+    sub-graphs-2
+    part-last-start
+    part-last-end
+    graphs-requires
+    sub-gather-both
+    part-gather-both-start
+    part-gather-both-end
+    sub-gather-both-2
+    part-gather-both-start-2
+    part-gather-both-end-2
+    gather-both-requires
     same-length
     same-length-2
-    returns
-    slice-aggregate-gather-live
-    sub-gather-live
-    part-gather-live-start
-    part-gather-live-end
-    gather-live-requires
     same-length-3
-    same-length-4
-    same-length-5
-    returns-2)
+    returns)

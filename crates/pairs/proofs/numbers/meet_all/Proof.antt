@@ -1,21 +1,21 @@
 -- `numbers::meet_all` meets its contract: after j turns the numbers of the tasks below j are what the set makes of them. Assumes nothing.
-use mathlib.Core.Path.{_≡_}
-use mathlib.Core.Logic.{inl, inr}
+use mathlib.Core.Path.{_≡_, refl}
 use mathlib.Core.List.{[], _∷_}
-use Prim.Native.Nat.{ℕ, _-_, _^_, _≤_, _<_}
+use Prim.Native.Nat.{_-_, _≤_, _<_}
 use native.Mathlib.Omega.{arith}
 use borrow.Author.Needs.{needs}
+use lib.Count.{ones}
 use lib.ListN.{length, getD, length-set}
-use Rattle.pairs.specs.Pairs.{usedOf, Met}
-use Rattle.pairs.proofs.Meeting.{most-few, common-at, met-start, met-raised, met-kept}
+use Rattle.pairs.specs.Pairs.{Met}
+use Rattle.pairs.proofs.Meeting.{common-at, met-start, met-turn}
 use Rattle.pairs.proofs.numbers.meet_all.Statement.{statement}
 use Rattle.pairs.proofs.numbers.meet_all.Tie as tie
 
 abbrev Inv-loop : tie.InvT-loop
-Inv-loop set used counts tasks numbers₀ j₀ numbers j = (j ≤ tasks) × (length numbers ≡ 8) × Met (set ∷ []) used counts j numbers₀ numbers
+Inv-loop set used counts tasks numbers₀ size j₀ numbers j = (j ≤ tasks) × (length numbers ≡ 8) × Met (set ∷ []) used counts j numbers₀ numbers
 
 abbrev μ-loop : tie.MeasureT-loop
-μ-loop set used counts tasks numbers₀ j₀ numbers j = tasks - j
+μ-loop set used counts tasks numbers₀ size j₀ numbers j = tasks - j
 
 -- task j has at most 32 used sets
 few : (c : tie.In-loop Inv-loop μ-loop) → getD (c .before .before .before .before .before .args .counts .now) (c .before .loop .j) 0 ≤ 32
@@ -34,42 +34,35 @@ mul-count c = search needs
 shared-slice-read-count : tie.Need-shared-slice-read-count Inv-loop μ-loop
 shared-slice-read-count c = search needs
 
-mul-most-common : tie.Need-mul-most-common Inv-loop μ-loop
-mul-most-common c = search needs
+mul-raised : tie.Need-mul-raised Inv-loop μ-loop
+mul-raised c = search needs
 
-mul-most-common-2 : tie.Need-mul-most-common-2 Inv-loop μ-loop
-mul-most-common-2 c = omega (arith, few (c .before))
+slice-read-raised : tie.Need-slice-read-raised Inv-loop μ-loop
+slice-read-raised c = search needs
 
-add-most-common : tie.Need-add-most-common Inv-loop μ-loop
-add-most-common c = omega (arith, few (c .before))
+mul-raised-2 : tie.Need-mul-raised-2 Inv-loop μ-loop
+mul-raised-2 c = omega (arith, few (c .before .before))
 
-mul-most-common-3 : tie.Need-mul-most-common-3 Inv-loop μ-loop
-mul-most-common-3 c = omega (arith, few (c .before))
+mul-raised-3 : tie.Need-mul-raised-3 Inv-loop μ-loop
+mul-raised-3 c = omega (arith, few (c .before .before))
 
-sub-most-common : tie.Need-sub-most-common Inv-loop μ-loop
-sub-most-common c = omega (arith, few (c .before))
+add-raised : tie.Need-add-raised Inv-loop μ-loop
+add-raised c = omega (arith, few (c .before .before))
 
-part-most-common-start : tie.Need-part-most-common-start Inv-loop μ-loop
-part-most-common-start c = omega (arith, few (c .before))
+mul-raised-4 : tie.Need-mul-raised-4 Inv-loop μ-loop
+mul-raised-4 c = omega (arith, few (c .before .before))
 
-part-most-common-end : tie.Need-part-most-common-end Inv-loop μ-loop
-part-most-common-end c = omega (arith, few (c .before))
+sub-raised : tie.Need-sub-raised Inv-loop μ-loop
+sub-raised c = omega (arith, few (c .before .before))
 
-most-common-requires : tie.Need-most-common-requires Inv-loop μ-loop
-most-common-requires c κs = search needs
+part-raised-start : tie.Need-part-raised-start Inv-loop μ-loop
+part-raised-start c = omega (arith, few (c .before .before))
 
-cast-most : tie.Need-cast-most Inv-loop μ-loop
-cast-most c =
-    let at = c .before .before .before .before .loop in
-    let args = c .before .before .before .before .before .before .before .before .args in
-    let fits : args .set < 2 ^ 32 = search needs in
-    omega (arith, most-few (args .set) (usedOf (args .used .now) (args .counts .now) (at .j)) fits, common-at (args .set) (args .used .now) (args .counts .now) (at .j) (c .most-common .ensures))
+part-raised-end : tie.Need-part-raised-end Inv-loop μ-loop
+part-raised-end c = omega (arith, few (c .before .before))
 
-mul-if1 : tie.Need-mul-if1 Inv-loop μ-loop
-mul-if1 c = search needs
-
-slice-read-if1 : tie.Need-slice-read-if1 Inv-loop μ-loop
-slice-read-if1 c = search needs
+raised-requires : tie.Need-raised-requires Inv-loop μ-loop
+raised-requires c κs = search needs
 
 mul-numbers : tie.Need-mul-numbers Inv-loop μ-loop
 mul-numbers c = search needs
@@ -85,16 +78,11 @@ loop-less c = search needs
 
 loop-again : tie.Need-loop-again Inv-loop μ-loop
 loop-again c =
-    let at = c .before .before .before .before .before .before .loop in
-    let args = c .before .before .before .before .before .before .before .before .before .before .args in
-    let is = common-at (args .set) (args .used .now) (args .counts .now) (at .j) (c .before .before .most-common .ensures) in
-    let raised = met-raised (args .used .now) (args .counts .now) (args .set) (at .j) (args .numbers .now) (at .numbers) (at .inv .2) is in
-    let kept = met-kept (args .used .now) (args .counts .now) (args .set) (at .j) (args .numbers .now) (at .numbers) (at .inv .2) is in
+    let at = c .before .before .before .before .before .loop in
+    let args = c .before .before .before .before .before .before .before .before .before .args in
     let inside : at .j < length (at .numbers) = search needs in
-    elim (c .if1 .came) [
-      | inl w ↦ rw (w .1) (omega arith, simp length-set (omega arith), raised inside (w .0 .taken))
-      | inr w ↦ rw (w .1) (omega arith, omega arith, kept (w .0 .left))
-    ]
+    let is = common-at (args .set) (getD (at .numbers) (at .j) 0) (args .used .now) (args .counts .now) (at .j) (c .raised .ensures) in
+    (omega arith, simp length-set (omega arith), met-turn (args .used .now) (args .counts .now) (args .set) (at .j) (args .numbers .now) (at .numbers) (at .inv .2) inside is)
 
 same-length : tie.Need-same-length Inv-loop μ-loop
 same-length c = search needs
@@ -114,17 +102,16 @@ meet-all-spec =
     loop-holds
     mul-count
     shared-slice-read-count
-    mul-most-common
-    mul-most-common-2
-    add-most-common
-    mul-most-common-3
-    sub-most-common
-    part-most-common-start
-    part-most-common-end
-    most-common-requires
-    cast-most
-    mul-if1
-    slice-read-if1
+    mul-raised
+    slice-read-raised
+    mul-raised-2
+    mul-raised-3
+    add-raised
+    mul-raised-4
+    sub-raised
+    part-raised-start
+    part-raised-end
+    raised-requires
     mul-numbers
     slice-write-numbers
     add-j

@@ -1,40 +1,46 @@
 -- `numbers::meet_block` meets its contract: after k turns the useful sets of the first k reaching rows are met. Assumes nothing.
-use mathlib.Core.Path.{_≡_}
-use Prim.Native.Nat.{_-_, _≤_}
+use mathlib.Core.Path.{_≡_, sym, ap, _∙_}
+use Prim.Native.Nat.{ℕ, _+_, _*_, _-_, _≤_}
 use native.Mathlib.Omega.{arith}
 use borrow.Author.Needs.{needs}
-use lib.ListN.{length, length-take, length-drop}
+use lib.ListN.{length}
 use Rattle.rows.specs.Rows.{rowsOf}
-use Rattle.pairs.specs.Pairs.{blockUseful, MetOnce}
-use Rattle.pairs.proofs.Meeting.{once-none, once-block}
+use Rattle.rows.proofs.Parts.{row-within}
+use Rattle.pairs.specs.Pairs.{blockUseful, Met, Absorbed}
+use Rattle.pairs.proofs.UsedSets.{lent-long, lent-width}
+use Rattle.pairs.proofs.Meeting.{met-none, met-block}
 use Rattle.pairs.proofs.numbers.meet_block.Statement.{statement}
 use Rattle.pairs.proofs.numbers.meet_block.Tie as tie
 
 abbrev Inv-loop : tie.InvT-loop
-Inv-loop reaching reached live lived used counts tasks table₀ numbers₀ k₀ table numbers k =
+Inv-loop w reaching reached live lived used counts tasks met₀ numbers₀ k₀ met numbers k =
     (k ≤ reached) × (length numbers ≡ 8)
-    × MetOnce (blockUseful (rowsOf 16 k reaching) (rowsOf 16 lived live)) used counts tasks table₀ numbers₀ table numbers
+    × Met (blockUseful (rowsOf w k reaching) (rowsOf w lived live)) used counts tasks numbers₀ numbers × Absorbed met used counts tasks numbers
 
 abbrev μ-loop : tie.MeasureT-loop
-μ-loop reaching reached live lived used counts tasks table₀ numbers₀ k₀ table numbers k = reached - k
+μ-loop w reaching reached live lived used counts tasks met₀ numbers₀ k₀ met numbers k = reached - k
+
+-- where the reaching row numbered k ends
+inside : (c : tie.In-loop Inv-loop μ-loop) → let w = c .before .before .before .before .before .before .before .args .w in
+    (w * c .before .loop .k + w ≤ 32 * w) × (w ≤ 32)
+inside c =
+    let start = c .before .before .before .before .before .before .before in
+    (omega (arith, row-within (start .args .w) (c .before .loop .k) 32 (omega arith)), start .pre .0 .narrow)
 
 loop-holds : tie.Need-loop-holds Inv-loop μ-loop
 loop-holds c =
     let start = c .before .before .before .before .before in
     let args = start .args in
-    (omega arith, start .pre .5, once-none (args .used .now) (args .counts .now) (args .tasks) (args .table .now) (args .numbers .now))
+    (omega arith, start .pre .6, met-none (args .used .now) (args .counts .now) (args .tasks) (args .numbers .now), start .pre .7)
 
-mul-meet-row : tie.Need-mul-meet-row Inv-loop μ-loop
-mul-meet-row c = search needs
-
-mul-meet-row-2 : tie.Need-mul-meet-row-2 Inv-loop μ-loop
-mul-meet-row-2 c = search needs
+mul-at : tie.Need-mul-at Inv-loop μ-loop
+mul-at c = omega (arith, inside c)
 
 add-meet-row : tie.Need-add-meet-row Inv-loop μ-loop
-add-meet-row c = search needs
+add-meet-row c = omega (arith, inside c)
 
-mul-meet-row-3 : tie.Need-mul-meet-row-3 Inv-loop μ-loop
-mul-meet-row-3 c = search needs
+mul-meet-row : tie.Need-mul-meet-row Inv-loop μ-loop
+mul-meet-row c = omega (arith, inside c)
 
 sub-meet-row : tie.Need-sub-meet-row Inv-loop μ-loop
 sub-meet-row c = search needs
@@ -43,13 +49,15 @@ part-meet-row-start : tie.Need-part-meet-row-start Inv-loop μ-loop
 part-meet-row-start c = search needs
 
 part-meet-row-end : tie.Need-part-meet-row-end Inv-loop μ-loop
-part-meet-row-end c = search needs
+part-meet-row-end c = omega (arith, inside c)
 
 meet-row-requires : tie.Need-meet-row-requires Inv-loop μ-loop
 meet-row-requires c κs =
     let start = c .before .before .before .before .before .before .before .before .before .before in
     let at = c .before .before .before .before .loop in
-    (simp (length-take, length-drop) (omega arith), start .pre .2, start .pre .3, start .pre .4, at .inv .1)
+    let args = start .args in
+    let long = lent-long (args .w) (at .k) 32 (args .reaching .now) (omega arith) (start .pre .1) in
+    (lent-width (args .w) (at .k) 32 (args .reaching .now) (omega arith) (start .pre .1) (start .pre .0), start .pre .3 ∙ ap (λ (n : ℕ). 32 * n) (sym long), start .pre .4, start .pre .5, at .inv .1, at .inv .3)
 
 add-k : tie.Need-add-k Inv-loop μ-loop
 add-k c = search needs
@@ -60,10 +68,13 @@ loop-less c = search needs
 loop-again : tie.Need-loop-again Inv-loop μ-loop
 loop-again c =
     let at = c .before .before .before .before .before .before .before .loop in
-    let args = c .before .before .before .before .before .before .before .before .before .before .before .before .before .args in (
+    let start = c .before .before .before .before .before .before .before .before .before .before .before .before .before in
+    let args = start .args in
+    let met = c .before .before .meet-row .ensures in (
       omega arith,
       search needs,
-      once-block (args .used .now) (args .counts .now) (args .tasks) (at .k) (args .reaching .now) (rowsOf 16 (args .lived) (args .live .now)) (at .inv .2) (c .before .before .meet-row .ensures),
+      met-block (args .used .now) (args .counts .now) (args .tasks) (args .w) (at .k) (args .reaching .now) (args .lived) (args .live .now) (omega arith) (start .pre .1) (at .inv .2) (met .0),
+      met .1,
     )
 
 same-length : tie.Need-same-length Inv-loop μ-loop
@@ -74,7 +85,7 @@ returns c =
     let at = c .before .loop in
     let args = c .before .before .before .before .before .before .before .args in
     let end : at .k ≡ args .reached = omega arith in
-    rw end at (at .inv .2)
+    (rw end at (at .inv .2), at .inv .3)
 
 pub meet-block-spec : {M : Type 1} → statement M
 meet-block-spec =
@@ -83,10 +94,9 @@ meet-block-spec =
     Inv-loop
     μ-loop
     loop-holds
-    mul-meet-row
-    mul-meet-row-2
+    mul-at
     add-meet-row
-    mul-meet-row-3
+    mul-meet-row
     sub-meet-row
     part-meet-row-start
     part-meet-row-end

@@ -1,17 +1,25 @@
--- `numbers::meet_set` meets its contract: what the table says of the set tells whether it was met before. Assumes nothing.
-use Rattle.pairs.proofs.Meeting.{once-old, once-new}
+-- `numbers::meet_set` meets its contract: a set that stands in the room was met before and raises no number. Assumes nothing.
+use Prim.Native.Nat.{_%_}
+use native.Mathlib.Omega.{arith}
 use borrow.Author.Needs.{needs}
+use Rattle.pairs.proofs.Meeting.{met-before, absorbed-more}
 use Rattle.pairs.proofs.numbers.meet_set.Statement.{statement}
 use Rattle.pairs.proofs.numbers.meet_set.Tie as tie
 
-cast-number : tie.Need-cast-number
-cast-number c = search needs
+cast-at : tie.Need-cast-at
+cast-at c = search needs
 
-seen-requires : tie.Need-seen-requires
-seen-requires c κs = search needs
+mul-if1 : tie.Need-mul-if1
+mul-if1 c = search needs
 
-mark-requires : tie.Need-mark-requires
-mark-requires c κs = search needs
+element-copy-out-if1 : tie.Need-element-copy-out-if1
+element-copy-out-if1 c = search needs
+
+mul-met : tie.Need-mul-met
+mul-met c = search needs
+
+element-write-met : tie.Need-element-write-met
+element-write-met c = search needs
 
 meet-all-requires : tie.Need-meet-all-requires
 meet-all-requires c κs = search needs
@@ -21,22 +29,26 @@ same-length c = search needs
 
 returns : tie.Need-returns
 returns c =
-    let args = c .before .before .before .before .before .before .before .before .before .before .before .before .args in
-    let marked = c .before .before .before .before .mark .ensures in
-    once-new (args .used .now) (args .counts .now) (args .tasks) (args .set) (c .before .before .before .before .before .before .before .seen .ensures) (c .before .before .before .before .before .before .if1 .taken) marked (c .before .before .meet-all .ensures)
+    let start = c .before .before .before .before .before .before .before .before .before in
+    let args = start .args in
+    let raised = c .before .before .meet-all .ensures in
+    (raised, absorbed-more (args .used .now) (args .counts .now) (args .tasks) (args .set) (args .set % 1021) (omega arith) (start .pre .2) raised)
 
 returns-2 : tie.Need-returns-2
 returns-2 c =
-    let args = c .before .before .before .before .before .before .args in
-    once-old (args .used .now) (args .counts .now) (args .tasks) (args .set) (c .before .seen .ensures) (c .if1 .left)
+    let start = c .before .before .before .before .before in
+    let args = start .args in
+    (met-before (args .used .now) (args .counts .now) (args .tasks) (args .set) (args .set % 1021) (omega arith) (start .pre .2) (c .if1 .left), start .pre .2)
 
 pub meet-set-spec : {M : Type 1} → statement M
 meet-set-spec =
     tie.close
     (tie.spec
-    cast-number
-    seen-requires
-    mark-requires
+    cast-at
+    mul-if1
+    element-copy-out-if1
+    mul-met
+    element-write-met
     meet-all-requires
     same-length
     returns

@@ -1,40 +1,49 @@
--- `numbers::meet_task` meets its contract: after b turns the useful sets of the first b blocks are met, each once. Assumes nothing.
+-- `numbers::meet_task` meets its contract: after b turns the useful sets of the first b blocks are met. Assumes nothing.
 use mathlib.Core.Path.{_≡_}
-use Prim.Native.Nat.{_-_, _≤_}
+use Prim.Native.Nat.{_+_, _*_, _-_, _≤_}
 use native.Mathlib.Omega.{arith}
 use borrow.Author.Needs.{needs}
-use lib.ListN.{length, replicate, length-take, length-drop}
+use lib.ListN.{length}
+use Rattle.rows.proofs.Parts.{row-within}
 use Rattle.gather.specs.Memory.{heldRows}
-use Rattle.pairs.specs.Pairs.{taskUseful, MetOnce}
-use Rattle.pairs.proofs.Meeting.{held-at, once-none, once-task, once-all}
+use Rattle.pairs.specs.Pairs.{taskUseful, Met, Absorbed}
+use Rattle.pairs.proofs.UsedSets.{lent-long}
+use Rattle.pairs.proofs.Meeting.{held-at, met-none, met-task, absorbed-none}
 use Rattle.pairs.proofs.numbers.meet_task.Statement.{statement}
 use Rattle.pairs.proofs.numbers.meet_task.Tie as tie
 
 abbrev Inv-loop : tie.InvT-loop
-Inv-loop blocks reaching reached live lived used counts tasks numbers₀ table₀ b₀ numbers table b =
+Inv-loop w blocks reaching reached live lived used counts tasks numbers₀ met₀ part b₀ numbers met b =
     (b ≤ blocks) × (length numbers ≡ 8)
-    × MetOnce (taskUseful (heldRows reaching reached) (heldRows live lived) b 0) used counts tasks (replicate 1024 0) numbers₀ table numbers
+    × Met (taskUseful (heldRows w reaching reached) (heldRows w live lived) b 0) used counts tasks numbers₀ numbers × Absorbed met used counts tasks numbers
 
 abbrev μ-loop : tie.MeasureT-loop
-μ-loop blocks reaching reached live lived used counts tasks numbers₀ table₀ b₀ numbers table b = blocks - b
+μ-loop w blocks reaching reached live lived used counts tasks numbers₀ met₀ part b₀ numbers met b = blocks - b
+
+-- where the rows of block b end
+inside : (c : tie.In-loop Inv-loop μ-loop) → let w = c .before .before .before .before .before .before .before .before .before .args .w in
+    (32 * w * c .before .loop .b + 32 * w ≤ 24 * (32 * w)) × (w ≤ 32)
+inside c =
+    let start = c .before .before .before .before .before .before .before .before .before in
+    (omega (arith, row-within (32 * start .args .w) (c .before .loop .b) 24 (omega arith)), start .pre .1 .width .narrow)
+
+mul-part : tie.Need-mul-part Inv-loop μ-loop
+mul-part c = omega (arith, c .before .before .before .before .before .before .before .pre .1 .width .narrow)
 
 loop-holds : tie.Need-loop-holds Inv-loop μ-loop
 loop-holds c =
     let start = c .before .before .before .before .before .before .before in
     let args = start .args in
-    (omega arith, start .pre .4, once-none (args .used .now) (args .counts .now) (args .tasks) (replicate 1024 0) (args .numbers .now))
+    (omega arith, start .pre .4, met-none (args .used .now) (args .counts .now) (args .tasks) (args .numbers .now), absorbed-none (args .used .now) (args .counts .now) (args .tasks) (args .numbers .now))
 
-mul-meet-block : tie.Need-mul-meet-block Inv-loop μ-loop
-mul-meet-block c = search needs
-
-mul-meet-block-2 : tie.Need-mul-meet-block-2 Inv-loop μ-loop
-mul-meet-block-2 c = search needs
+mul-at : tie.Need-mul-at Inv-loop μ-loop
+mul-at c = omega (arith, inside c)
 
 add-meet-block : tie.Need-add-meet-block Inv-loop μ-loop
-add-meet-block c = search needs
+add-meet-block c = omega (arith, inside c)
 
-mul-meet-block-3 : tie.Need-mul-meet-block-3 Inv-loop μ-loop
-mul-meet-block-3 c = search needs
+mul-meet-block : tie.Need-mul-meet-block Inv-loop μ-loop
+mul-meet-block c = omega (arith, inside c)
 
 sub-meet-block : tie.Need-sub-meet-block Inv-loop μ-loop
 sub-meet-block c = search needs
@@ -43,25 +52,19 @@ part-meet-block-start : tie.Need-part-meet-block-start Inv-loop μ-loop
 part-meet-block-start c = search needs
 
 part-meet-block-end : tie.Need-part-meet-block-end Inv-loop μ-loop
-part-meet-block-end c = search needs
+part-meet-block-end c = omega (arith, inside c, c .before .before .before .before .before .before .before .before .before .pre .1 .long)
 
-mul-meet-block-4 : tie.Need-mul-meet-block-4 Inv-loop μ-loop
-mul-meet-block-4 c = search needs
+mul-meet-block-2 : tie.Need-mul-meet-block-2 Inv-loop μ-loop
+mul-meet-block-2 c = search needs
 
 shared-slice-read-meet-block : tie.Need-shared-slice-read-meet-block Inv-loop μ-loop
 shared-slice-read-meet-block c = search needs
 
-mul-meet-block-5 : tie.Need-mul-meet-block-5 Inv-loop μ-loop
-mul-meet-block-5 c = search needs
-
-mul-meet-block-6 : tie.Need-mul-meet-block-6 Inv-loop μ-loop
-mul-meet-block-6 c = search needs
-
 add-meet-block-2 : tie.Need-add-meet-block-2 Inv-loop μ-loop
-add-meet-block-2 c = search needs
+add-meet-block-2 c = omega (arith, inside (c .before .before))
 
-mul-meet-block-7 : tie.Need-mul-meet-block-7 Inv-loop μ-loop
-mul-meet-block-7 c = search needs
+mul-meet-block-3 : tie.Need-mul-meet-block-3 Inv-loop μ-loop
+mul-meet-block-3 c = omega (arith, inside (c .before .before))
 
 sub-meet-block-2 : tie.Need-sub-meet-block-2 Inv-loop μ-loop
 sub-meet-block-2 c = search needs
@@ -70,10 +73,10 @@ part-meet-block-start-2 : tie.Need-part-meet-block-start-2 Inv-loop μ-loop
 part-meet-block-start-2 c = search needs
 
 part-meet-block-end-2 : tie.Need-part-meet-block-end-2 Inv-loop μ-loop
-part-meet-block-end-2 c = search needs
+part-meet-block-end-2 c = omega (arith, inside (c .before .before), c .before .before .before .before .before .before .before .before .before .before .before .pre .2 .long)
 
-mul-meet-block-8 : tie.Need-mul-meet-block-8 Inv-loop μ-loop
-mul-meet-block-8 c = search needs
+mul-meet-block-4 : tie.Need-mul-meet-block-4 Inv-loop μ-loop
+mul-meet-block-4 c = search needs
 
 shared-slice-read-meet-block-2 : tie.Need-shared-slice-read-meet-block-2 Inv-loop μ-loop
 shared-slice-read-meet-block-2 c = search needs
@@ -81,13 +84,16 @@ shared-slice-read-meet-block-2 c = search needs
 meet-block-requires : tie.Need-meet-block-requires Inv-loop μ-loop
 meet-block-requires c κs =
     let start = c .before .before .before .before .before .before .before .before .before .before .before .before .before .before .before in
-    let at = c .before .before .before .before .before .before .before .loop in (
-      simp (length-take, length-drop) (omega (arith, start .pre .1 .long)),
+    let at = c .before .before .before .before .before .before .before .loop in
+    let args = start .args in (
+      start .pre .1 .width,
+      lent-long (32 * args .w) (at .b) 24 (args .reaching .now) (omega arith) (start .pre .1 .long),
       start .pre .1 .few (at .b) (omega arith),
-      simp (length-take, length-drop) (omega (arith, start .pre .2 .long)),
+      lent-long (32 * args .w) (at .b) 24 (args .live .now) (omega arith) (start .pre .2 .long),
       start .pre .2 .few (at .b) (omega arith),
       start .pre .3,
       at .inv .1,
+      at .inv .3,
     )
 
 add-b : tie.Need-add-b Inv-loop μ-loop
@@ -99,11 +105,13 @@ loop-less c = search needs
 loop-again : tie.Need-loop-again Inv-loop μ-loop
 loop-again c =
     let at = c .before .before .before .before .before .before .before .before .before .before .loop in
-    let args = c .before .before .before .before .before .before .before .before .before .before .before .before .before .before .before .before .before .before .args in (
+    let args = c .before .before .before .before .before .before .before .before .before .before .before .before .before .before .before .before .before .before .args in
+    let met = c .before .before .meet-block .ensures in (
       omega arith,
       search needs,
-      once-task (args .used .now) (args .counts .now) (args .tasks) (at .b) (heldRows (args .reaching .now) (args .reached .now)) (heldRows (args .live .now) (args .lived .now))
-          (held-at (args .reaching .now) (args .reached .now) (at .b)) (held-at (args .live .now) (args .lived .now) (at .b)) (at .inv .2) (c .before .before .meet-block .ensures),
+      met-task (args .used .now) (args .counts .now) (args .tasks) (at .b) (heldRows (args .w) (args .reaching .now) (args .reached .now)) (heldRows (args .w) (args .live .now) (args .lived .now))
+          (held-at (args .w) (args .reaching .now) (args .reached .now) (at .b)) (held-at (args .w) (args .live .now) (args .lived .now) (at .b)) (at .inv .2) (met .0),
+      met .1,
     )
 
 same-length : tie.Need-same-length Inv-loop μ-loop
@@ -112,10 +120,8 @@ same-length c = search needs
 returns : tie.Need-returns Inv-loop μ-loop
 returns c =
     let at = c .before .loop in
-    let args = c .before .before .before .before .before .before .before .before .before .args in
-    let end : at .b ≡ args .blocks = omega arith in
-    once-all (args .used .now) (args .counts .now) (args .tasks) (taskUseful (heldRows (args .reaching .now) (args .reached .now)) (heldRows (args .live .now) (args .lived .now)) (args .blocks) 0)
-    (rw end at (at .inv .2))
+    let end : at .b ≡ c .before .before .before .before .before .before .before .before .before .args .blocks = omega arith in
+    rw end at (at .inv .2)
 
 pub meet-task-spec : {M : Type 1} → statement M
 meet-task-spec =
@@ -123,24 +129,22 @@ meet-task-spec =
     (tie.spec
     Inv-loop
     μ-loop
+    mul-part
     loop-holds
-    mul-meet-block
-    mul-meet-block-2
+    mul-at
     add-meet-block
-    mul-meet-block-3
+    mul-meet-block
     sub-meet-block
     part-meet-block-start
     part-meet-block-end
-    mul-meet-block-4
+    mul-meet-block-2
     shared-slice-read-meet-block
-    mul-meet-block-5
-    mul-meet-block-6
     add-meet-block-2
-    mul-meet-block-7
+    mul-meet-block-3
     sub-meet-block-2
     part-meet-block-start-2
     part-meet-block-end-2
-    mul-meet-block-8
+    mul-meet-block-4
     shared-slice-read-meet-block-2
     meet-block-requires
     add-b

@@ -8,17 +8,17 @@ use Rattle.cache.specs.References.{numbers}
 use Rattle.model.specs.Tasks.{memoryBlocks}
 use Rattle.body.specs.Decode.{decode, taskOf}
 use Rattle.project.specs.Reading.{meets}
-use Rattle.seen.specs.Seen.{seenTable}
+use Rattle.seen.specs.Seen.{marksOf}
 use Rattle.reader.proofs.TaskLaws.{WalkedBody, walked-body, meets-pass, meets-found, meets-end}
 use Rattle.reader.proofs.tasks.body_meets.Statement.{statement}
 use Rattle.reader.proofs.tasks.body_meets.Tie as tie
 
 abbrev Inv-loop : tie.InvT-loop
-Inv-loop table body starts b₀ b-end b =
-    (b ≤ b-end) × ((ms : List ℕ) → table ≡ seenTable ms → meets (memoryBlocks (drop b (taskOf (decode body)))) ms ≡ meets (memoryBlocks (taskOf (decode body))) ms)
+Inv-loop marks body starts b₀ b-end b =
+    (b ≤ b-end) × ((ms : List ℕ) → marks ≡ marksOf ms → meets (memoryBlocks (drop b (taskOf (decode body)))) ms ≡ meets (memoryBlocks (taskOf (decode body))) ms)
 
 abbrev μ-loop : tie.MeasureT-loop
-μ-loop table body starts b₀ b-end b = b-end - b
+μ-loop marks body starts b₀ b-end b = b-end - b
 
 facts : (c : tie.After-walk Inv-loop μ-loop) → WalkedBody (c .before .before .args .body .now) (c .walk .result .blocks) (c .walk .result .starts)
 facts c = walked-body _ _ _ (c .walk .ensures .1) (c .walk .ensures .2)

@@ -1,4 +1,4 @@
--- `tasks::first_sharing` meets its contract: the table holds the memory blocks of the bodies passed. Assumes nothing.
+-- `tasks::first_sharing` meets its contract: the marks holds the memory blocks of the bodies passed. Assumes nothing.
 use mathlib.Core.Path.{_≡_, sym, ap, _∙_}
 use mathlib.Core.List.{List, [], _++_}
 use Prim.Native.Nat.{ℕ, _+_, _≤_, _<_, _-_}
@@ -11,18 +11,18 @@ use Rattle.project.specs.declared.answers.Check.the-variants.{Refused as Failed
 use Rattle.project.specs.Checklist.{lowest}
 use Rattle.project.specs.Reading.{sharings}
 use Rattle.project.specs.Ends.{between}
-use Rattle.seen.specs.Seen.{seenTable}
+use Rattle.seen.specs.Seen.{marksOf}
 use Rattle.seen.proofs.SeenLaws.{seen-none}
 use Rattle.reader.proofs.TaskLaws.{partAt, order-rise, order-within, sharing-pass, sharing-fail, sharing-start, sharing-end}
 use Rattle.reader.proofs.tasks.first_sharing.Statement.{statement}
 use Rattle.reader.proofs.tasks.first_sharing.Tie as tie
 
 abbrev Inv-loop : tie.InvT-loop
-Inv-loop bytes count ends table₀ j₀ table j =
-    (j ≤ count) × ((seen : List ℕ) × (table ≡ seenTable seen) × (lowest 10 j (sharings seen (between bytes ends (count - j) j)) ≡ lowest 10 0 (sharings [] (between bytes ends count 0))))
+Inv-loop bytes count ends marks₀ j₀ marks j =
+    (j ≤ count) × ((seen : List ℕ) × (marks ≡ marksOf seen) × (lowest 10 j (sharings seen (between bytes ends (count - j) j)) ≡ lowest 10 0 (sharings [] (between bytes ends count 0))))
 
 abbrev μ-loop : tie.MeasureT-loop
-μ-loop bytes count ends table₀ j₀ table j = count - j
+μ-loop bytes count ends marks₀ j₀ marks j = count - j
 
 rise : (c : tie.Start Inv-loop μ-loop) (j : ℕ) → j < c .args .count → getD (c .args .t3) j 0 ≤ getD (c .args .t3) (j + 1) 0
 rise c j l = order-rise (c .args .bytes .now) (c .args .t3) (c .args .count) (c .pre) j l

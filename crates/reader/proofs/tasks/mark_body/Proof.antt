@@ -7,18 +7,18 @@ use lib.ListN.{drop}
 use Rattle.cache.specs.References.{numbers}
 use Rattle.model.specs.Tasks.{Block, block, memoryBlocks}
 use Rattle.body.specs.Decode.{decode, taskOf}
-use Rattle.seen.specs.Seen.{seenTable}
+use Rattle.seen.specs.Seen.{marksOf}
 use Rattle.reader.proofs.TaskLaws.{WalkedBody, walked-body, mark-pass, mark-end}
 use Rattle.reader.proofs.tasks.mark_body.Statement.{statement}
 use Rattle.reader.proofs.tasks.mark_body.Tie as tie
 
 abbrev Inv-loop : tie.InvT-loop
-Inv-loop table₀ body starts b₀ b-end table b =
+Inv-loop marks₀ body starts b₀ b-end marks b =
     (b ≤ b-end)
-    × ((ms : List ℕ) → table₀ ≡ seenTable ms → (seen : List ℕ) × (table ≡ seenTable seen) × (seen ++ memoryBlocks (drop b (taskOf (decode body))) ≡ ms ++ memoryBlocks (taskOf (decode body))))
+    × ((ms : List ℕ) → marks₀ ≡ marksOf ms → (seen : List ℕ) × (marks ≡ marksOf seen) × (seen ++ memoryBlocks (drop b (taskOf (decode body))) ≡ ms ++ memoryBlocks (taskOf (decode body))))
 
 abbrev μ-loop : tie.MeasureT-loop
-μ-loop table₀ body starts b₀ b-end table b = b-end - b
+μ-loop marks₀ body starts b₀ b-end marks b = b-end - b
 
 facts : (c : tie.After-walk Inv-loop μ-loop) → WalkedBody (c .before .before .args .body .now) (c .walk .result .blocks) (c .walk .result .starts)
 facts c = walked-body _ _ _ (c .walk .ensures .1) (c .walk .ensures .2)
@@ -54,13 +54,13 @@ loop-again c =
     let part = f .parts (at .b) (omega arith) in
     let t = taskOf (decode (c .before .before .before .before .before .before .before .before .args .body .now)) in
     let refs = ap numbers (c .before .references .ensures) ∙ part .references in
-    (omega arith, λ ms e. let (seen, held, rest) = at .inv .1 ms e in (seen ++ block t (at .b) .references, c .mark-all .ensures seen held ∙ ap (λ l. seenTable (seen ++ l)) refs, mark-pass t seen (at .b) (omega (arith, f .long)) ∙ rest))
+    (omega arith, λ ms e. let (seen, held, rest) = at .inv .1 ms e in (seen ++ block t (at .b) .references, c .mark-all .ensures seen held ∙ ap (λ l. marksOf (seen ++ l)) refs, mark-pass t seen (at .b) (omega (arith, f .long)) ∙ rest))
 
 returns : tie.Need-returns Inv-loop μ-loop
 returns c =
     let at = c .before .loop in
     let f = facts (c .before .before .before) in
-    λ ms e. let (seen, held, rest) = at .inv .1 ms e in held ∙ ap seenTable (mark-end (taskOf (decode (c .before .before .before .before .before .args .body .now))) seen (at .b) (omega (arith, f .long)) ∙ rest)
+    λ ms e. let (seen, held, rest) = at .inv .1 ms e in held ∙ ap marksOf (mark-end (taskOf (decode (c .before .before .before .before .before .args .body .now))) seen (at .b) (omega (arith, f .long)) ∙ rest)
 
 pub mark-body-spec : {M : Type 1} → statement M
 mark-body-spec =

@@ -4,9 +4,11 @@ use Prim.Native.Nat.{_<_}
 use native.Mathlib.Omega.{arith}
 use lib.ListN.{length}
 use Rattle.cache.specs.References.{All}
-use Rattle.cache.specs.Cache.{wide}
+use Rattle.cache.specs.Shape.{shaped}
+use Rattle.cache.specs.declared.blocks.CacheShape.{CacheShape}
 use Rattle.model.specs.Tasks.{Task}
-use Rattle.reader.proofs.TaskBodies.{TaskBody, body-kept, body-task}
+use Rattle.project.proofs.Accepted.{accepted-passed, file-holds}
+use Rattle.reader.proofs.TaskBodies.{TaskBody, reading, body-kept, body-task}
 use Rattle.reader.proofs.TaskBodies.{task-body as of-task}
 use Rattle.runs.specs.Running.{held, ownPath}
 use borrow.Author.Needs.{needs}
@@ -26,8 +28,7 @@ run-path-requires c κs =
     let part = c .task-body .ensures .0 in (
       body-kept (start .args .file .now) (start .args .j) at part,
       subst (λ (t : Task). All (λ b. b < length t) (start .args .path .now)) (sym (body-task (start .args .file .now) (start .args .j) at part)) (start .pre .3),
-      omega (arith, at .low, start .pre .2),
-      omega (arith, at .high, start .pre .2),
+      file-holds 32 (omega arith) (start .args .file .now) (accepted-passed (start .args .file .now) _ _ (reading (start .args .file .now) (start .pre .0)) .0) (ap (λ (x : CacheShape). x .blocks) (start .pre .2)),
       start .pre .4,
     )
 
@@ -35,7 +36,7 @@ returns : tie.Need-returns
 returns c =
     let start = c .before .before .before .before in
     let same = body-task (start .args .file .now) (start .args .j) (of-file start) (c .before .task-body .ensures .0) in
-    c .run-path .ensures ∙ ap (λ (t : Task). ownPath (wide 16 (start .args .n)) t (held (start .args .cache)) (start .args .path .now)) same
+    c .run-path .ensures ∙ ap (λ (t : Task). ownPath (shaped 32 (start .args .shape)) t (held (start .args .cache)) (start .args .path .now)) same
 
 pub run-task-spec : {M : Type 1} → statement M
 run-task-spec = tie.close (tie.spec task-body-requires run-path-requires returns)

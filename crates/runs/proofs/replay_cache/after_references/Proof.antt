@@ -12,9 +12,13 @@ use Rattle.runs.proofs.Walking.{goes-none-slice, Walks, ends-at, walked
 use lib.ListN.{length}
 use denote.Struct.Laws as LL
 use Rattle.runs.specs.declared.replay_cache.ReplayCache.{ReplayCache}
+use Rattle.cache.specs.Shape.{Holds as ShapeHolds}
+use Rattle.cache.specs.declared.blocks.CacheShape.{CacheShape}
+use Rattle.cache.proofs.blocks.CacheShape as S
+use Rattle.cache.proofs.blocks.CacheShape.Laws as S′
 use Rattle.runs.proofs.replay_cache.ReplayCache as T
 use Rattle.runs.proofs.replay_cache.ReplayCache.Laws as T′
-use Rattle.runs.proofs.LentCache.{R, mach, Good, at-cell, AfterAll, typed, lends-local, local-back}
+use Rattle.runs.proofs.LentCache.{shapeVal, ShapeIs, shape-typed, R, mach, Good, at-cell, AfterAll, typed, lends-local, local-back}
 use Rattle.runs.proofs.replay_cache.refer_all as refer-all
 use Rattle.runs.proofs.replay_cache.refer_all.Symbol as refer-all-def
 use Rattle.runs.proofs.replay_cache.refer_all.Symbol.{name as #runs·replay-cache·refer-all}
@@ -25,72 +29,72 @@ use Rattle.runs.proofs.replay_cache.after_references.Statement as state
 use Rattle.runs.proofs.replay_cache.after_references.Code as code
 
 abbrev stayed : Stays (own.ended .signature .params) (own.ended .kept)
-stayed = (stay-none-slice (0 ∷ []) tt (plain (λ _. u8)) yes, (stay-none (λ _. u8) yes, (stay-none (λ _. R) yes, tt)))
+stayed = (stay-none-slice (0 ∷ []) tt (plain (λ _. u8)) yes, (stay-none (λ _. S.the-row) yes, (stay-none (λ _. R) yes, tt)))
 
 abbrev ReferAll : {M : Type 1} (𝓤 : URA M) (H : Heap 𝓤) (A : Atoms 𝓤) (at-mem : Memory → SProp 𝓤) (run : Routine → Fun 𝓤) → Contract 𝓤
 ReferAll 𝓤 H A at-mem run = tripleOf 𝓤 H A refer-all.signature (refer-all.spec 𝓤 H A at-mem run)
 
-module _ {M : Type 1} (𝓤 : URA M) (H : Heap 𝓤) (A : Atoms 𝓤) (W : Given 𝓤 H A) (at-mem : Memory → SProp 𝓤) (run : Routine → Fun 𝓤) (κ : Lft) (q : Share) (s : RefT (List ℕ)) (n : ℕ) (h : ReplayCache)
-    (s-is : Is (ShrSlice (named 0) κ u8) s (sliceVal (s .ptr) (length (s .now)) ∷ [])) (n-fits : n < 2 ^ 8) (h-is : Good h) (pre : (0 < n) × (n ≤ 16) × (h .misses + length (s .now) / 2 < 2 ^ 32)) where
+module _ {M : Type 1} (𝓤 : URA M) (H : Heap 𝓤) (A : Atoms 𝓤) (W : Given 𝓤 H A) (at-mem : Memory → SProp 𝓤) (run : Routine → Fun 𝓤) (κ : Lft) (q : Share) (s : RefT (List ℕ)) (shape : CacheShape) (h : ReplayCache)
+    (s-is : Is (ShrSlice (named 0) κ u8) s (sliceVal (s .ptr) (length (s .now)) ∷ [])) (shape-is : ShapeIs shape) (h-is : Good h) (pre : ShapeHolds 32 shape × (h .misses + length (s .now) / 2 < 2 ^ 32)) where
   abbrev v : Val
   v = sliceVal (s .ptr) (length (s .now))
 
   abbrev Own : Fml
   Own = ShrSlice (named 0) κ u8 .own s (v ∷ [])
 
-  abbrev x : RefT (List ℕ) × (ℕ × (ReplayCache × Unit {0}))
-  x = (s, (n, (h, tt)))
+  abbrev x : RefT (List ℕ) × (CacheShape × (ReplayCache × Unit {0}))
+  x = (s, (shape, (h, tt)))
 
   abbrev at : List Val × (List Val × (List Val × Unit {0}))
-  at = (v ∷ [], (vint w8 n ∷ [], (mach h ∷ [], tt)))
+  at = (v ∷ [], (shapeVal shape ∷ [], (mach h ∷ [], tt)))
 
   abbrev Post : Val → SProp 𝓤
   Post = walkOf 𝓤 H A own.ended stayed (own.clauses 𝓤 H A at-mem run) .post (((κ, tt), (q, tt), tt, x, at), tt)
 
-  exits : (r : ReplayCache) → Good r → AfterAll h (s .now) n r → ent 𝓤 (⋆ 𝓤 H A (‵ Own ∷ ‵ (flft κ q) ∷ [])) (Post (mach r))
+  exits : (r : ReplayCache) → Good r → AfterAll h (s .now) shape r → ent 𝓤 (⋆ 𝓤 H A (‵ Own ∷ ‵ (flft κ q) ∷ [])) (Post (mach r))
   exits r good e =
       qed W (‵ Own ∷ ‵ (flft κ q) ∷ []) ∵
       suffices ! _ (ends-at 𝓤 H A own.ended stayed (own.clauses 𝓤 H A at-mem run) W (((κ, tt), (q, tt), tt, x, at), tt) (mach r) r (tt, (tt, (tt, tt))) (tt, (tt, (tt, tt)))) $
       says ! e $
       nothing ! $ move ! (2 ∷ 0 ∷ []) $ join ! $ frame ! $
-      nothing ! $ owned ! R (Is R) (LL.makes T.the-type T′.the-plain 𝓤 H A) h _ h-is $ fjoin ! $ owned ! u8 (Is u8) (uint-makes 𝓤 H A W w8) n _ (refl, n-fits) $ fjoin ! $
+      nothing ! $ owned ! R (Is R) (LL.makes T.the-type T′.the-plain 𝓤 H A) h _ h-is $ fjoin ! $ owned ! S.the-row (Is S.the-row) (LL.makes S.the-type S′.the-plain 𝓤 H A) shape _ shape-is $ fjoin ! $
       move ! (1 ∷ 0 ∷ []) $ fjoin ! $ frame ! $
       owned ! R (Is R) (LL.makes T.the-type T′.the-plain 𝓤 H A) r _ good $ done !
 
   -- ---- the call of `refer_all`: the local at (b, 0), lent for the lifetime ν under the name δ
   abbrev to : ℕ → ℕ → GName → ReferAll 𝓤 H A at-mem run .Ghost
-  to b ν δ = (((κ, (ν ∷ [], tt)), (q, (fullShare, tt)), tt, (s, (n, (at-cell b 0 δ h, tt))), (v ∷ [], (vint w8 n ∷ [], (vptr b 0 ∷ [], tt)))), tt)
+  to b ν δ = (((κ, (ν ∷ [], tt)), (q, (fullShare, tt)), tt, (s, (shape, (at-cell b 0 δ h, tt))), (v ∷ [], (shapeVal shape ∷ [], (vptr b 0 ∷ [], tt)))), tt)
 
   goes : (b ν : ℕ) (δ : GName) → ent 𝓤 (⋆ 𝓤 H A (‵ (flft κ q) ∷ ‵ (flft (ν ∷ []) fullShare) ∷ ‵ Own ∷ ‵ (MutRef (named 1) (ν ∷ []) R .own (at-cell b 0 δ h) (vptr b 0 ∷ [])) ∷ [])) (ReferAll 𝓤 H A at-mem run .pre (to b ν δ))
   goes b ν δ =
       qed W (‵ (flft κ q) ∷ ‵ (flft (ν ∷ []) fullShare) ∷ ‵ Own ∷ ‵ (MutRef (named 1) (ν ∷ []) R .own (at-cell b 0 δ h) (vptr b 0 ∷ [])) ∷ []) ∵ says ! pre $
       nothing ! $ move ! (2 ∷ 0 ∷ []) $ join ! $ move ! (1 ∷ 0 ∷ []) $ join ! $ frame ! $
-      nothing ! $ move ! (2 ∷ 0 ∷ []) $ fjoin ! $ owned ! u8 (Is u8) (uint-makes 𝓤 H A W w8) n _ (refl, n-fits) $ fjoin ! $ move ! (1 ∷ 0 ∷ []) $ fjoin ! $ done !
+      nothing ! $ move ! (2 ∷ 0 ∷ []) $ fjoin ! $ owned ! S.the-row (Is S.the-row) (LL.makes S.the-type S′.the-plain 𝓤 H A) shape _ shape-is $ fjoin ! $ move ! (1 ∷ 0 ∷ []) $ fjoin ! $ done !
 
   abbrev Back : ℕ → GName → Val → ReplayCache → SProp 𝓤
-  Back ν δ z r = guard 𝓤 ((z ≡ vunit) × AfterAll h (s .now) n r) (sep 𝓤 (A .lft κ q) (sep 𝓤 (A .lft (ν ∷ []) fullShare) (A .res δ (R .coded .code r))))
+  Back ν δ z r = guard 𝓤 ((z ≡ vunit) × AfterAll h (s .now) shape r) (sep 𝓤 (A .lft κ q) (sep 𝓤 (A .lft (ν ∷ []) fullShare) (A .res δ (R .coded .code r))))
 
   gives : (b ν : ℕ) (δ : GName) (z : Val) → ent 𝓤 (ReferAll 𝓤 H A at-mem run .post (to b ν δ) z) (H .⇛ (ex 𝓤 (Back ν δ z)))
   gives b ν δ z =
       qed W (raw (ReferAll 𝓤 H A at-mem run .post (to b ν δ) z) ∷ []) ∵ updating ! $
-      use1 W (later (some (λ (y : Unit {0}). ((‵ (flft κ q) ⊛ ‵ (flft (ν ∷ []) fullShare) ⊛ ‵ ftrue) ⊛ ‵ (Nothing .own y (z ∷ []))) ⊛ raw (ensured 𝓤 H A refer-all.ended (refer-all.clauses 𝓤 H A at-mem run) (κ, (ν ∷ [], tt)) (s, (n, (at-cell b 0 δ h, tt))) tt y))))
+      use1 W (later (some (λ (y : Unit {0}). ((‵ (flft κ q) ⊛ ‵ (flft (ν ∷ []) fullShare) ⊛ ‵ ftrue) ⊛ ‵ (Nothing .own y (z ∷ []))) ⊛ raw (ensured 𝓤 H A refer-all.ended (refer-all.clauses 𝓤 H A at-mem run) (κ, (ν ∷ [], tt)) (s, (shape, (at-cell b 0 δ h, tt))) tt y))))
       (id⊢ 𝓤 _) $
       await ! tt $ pick ! (λ y.
       split ! $ move ! (1 ∷ []) $
-      use1 W (some (λ (ws : Unit {0} × (Unit {0} × (ReplayCache × Unit {0}))). ‵ (lasts refer-all.ended (κ, (ν ∷ [], tt)) (s, (n, (at-cell b 0 δ h, tt))) ws) ⊛ raw (fact 𝓤 (AfterAll h (s .now) n (ws .1 .1 .0)))))
+      use1 W (some (λ (ws : Unit {0} × (Unit {0} × (ReplayCache × Unit {0}))). ‵ (lasts refer-all.ended (κ, (ν ∷ [], tt)) (s, (shape, (at-cell b 0 δ h, tt))) ws) ⊛ raw (fact 𝓤 (AfterAll h (s .now) shape (ws .1 .1 .0)))))
       (id⊢ 𝓤 _) $
       pick ! (λ ws.
-      split ! $ move ! (1 ∷ []) $ heard ! (AfterAll h (s .now) n (ws .1 .1 .0)) (λ e. fsplit ! $ drop ! $ fsplit ! $ drop ! $ fsplit ! $ move ! (2 ∷ []) $ split ! $
+      split ! $ move ! (1 ∷ []) $ heard ! (AfterAll h (s .now) shape (ws .1 .1 .0)) (λ e. fsplit ! $ drop ! $ fsplit ! $ drop ! $ fsplit ! $ move ! (2 ∷ []) $ split ! $
       move ! (1 ∷ []) $ feqL ! (λ is. split ! $ move ! (1 ∷ []) $ split ! $
       -- [ν's token; true; the slice's token; the last value; true]
       at-once ! $ show ! (Back ν δ z) (ws .1 .1 .0) $ check ! (ap only is, e) $ keep ! (2 ∷ 0 ∷ 3 ∷ []) $ done !))))
 
   module _ (𝓣 : Tables 𝓤 H) (known : Triple 𝓤 (𝓣 .C #runs·replay-cache·refer-all) (ReferAll 𝓤 H A at-mem run)) where
-    walk : ent 𝓤 (onEntry 𝓤 H A own.signature (κ, tt) (q, tt) x at) (WpFn 𝓤 H (𝓣 .C) (𝓣 .Λ) code.function (v ∷ vint w8 n ∷ mach h ∷ []) Post)
+    walk : ent 𝓤 (onEntry 𝓤 H A own.signature (κ, tt) (q, tt) x at) (WpFn 𝓤 H (𝓣 .C) (𝓣 .Λ) code.function (v ∷ shapeVal shape ∷ mach h ∷ []) Post)
     walk =
-        qed W ((‵ (flft κ q) ⊛ ‵ ftrue) ∷ ‵ (owns (ShrSlice (named 0) κ u8 ∷ u8 ∷ R ∷ []) x at) ∷ []) ∵ enter ! (𝓣 .C) (𝓣 .Λ) code.function (v ∷ vint w8 n ∷ mach h ∷ []) _ $
+        qed W ((‵ (flft κ q) ⊛ ‵ ftrue) ∷ ‵ (owns (ShrSlice (named 0) κ u8 ∷ S.the-row ∷ R ∷ []) x at) ∷ []) ∵ enter ! (𝓣 .C) (𝓣 .Λ) code.function (v ∷ shapeVal shape ∷ mach h ∷ []) _ $
         alloc1 ! (λ l₀. alloc1 ! (λ l₁. alloc1 ! (λ l₂. alloc1 ! (λ l₃. alloc1 ! (λ l₄. alloc1 ! (λ l₅. alloc1 ! (λ l₆. alloc0 ! $ params1 ! $
-        pass1 ! (init ! 10 refl (shr-slice-lawful 𝓤 H A W (named 0) κ u8 .typed s (v ∷ []) s-is .0)) $ pass1 ! (init ! 8 refl (tt, record { fits = n-fits })) $
+        pass1 ! (init ! 10 refl (shr-slice-lawful 𝓤 H A W (named 0) κ u8 .typed s (v ∷ []) s-is .0)) $ pass1 ! (init ! 8 refl (shape-typed 𝓤 H A W shape shape-is)) $
         pass1 ! (init ! 6 refl (typed 𝓤 H A W h h-is)) $ pass0 ! $
         -- [_6; …; _5; …; _4; …; _3; …; _2; …; _1; …; room for _0; …; the token; what the parameters own]
         assigns ! (of-opd ! (load ! (from ! (stop !)) (look ! 6 refl))) (from ! (stop !)) (init ! 4 refl (typed 𝓤 H A W h h-is)) $
@@ -108,7 +112,7 @@ module _ {M : Type 1} (𝓤 : URA M) (H : Heap 𝓤) (A : Atoms 𝓤) (W : Given
         -- [what it asks; the lender's part; the slice; true; …; _6; …; _5; …; of _4; _3; …; _2; …; _1; …; room for _0; …]
         calls-at ! (fmOf 𝓤 H (W .laws) 𝓣) (ReferAll 𝓤 H A at-mem run) known (to l₄ ν δ)
         (and-then ! (load ! (from ! (stop !)) (look ! 14 refl)) (and-then ! (load ! (from ! (stop !)) (look ! 12 refl)) (and-then ! (load ! (from ! (stop !)) (look ! 5 refl)) (no-more !)))) (λ z.
-        use1 W (later (some (λ (r : ReplayCache). given ((z ≡ vunit) × AfterAll h (s .now) n r) (‵ (flft κ q) ⊛ ‵ (flft (ν ∷ []) fullShare) ⊛ ‵ (fres δ (R .coded .code r)))))) (gives l₄ ν δ z) $
+        use1 W (later (some (λ (r : ReplayCache). given ((z ≡ vunit) × AfterAll h (s .now) shape r) (‵ (flft κ q) ⊛ ‵ (flft (ν ∷ []) fullShare) ⊛ ‵ (fres δ (R .coded .code r)))))) (gives l₄ ν δ z) $
         await ! tt $ pick ! (λ r. learn ! (λ e. split3 ! $
         -- [the token; ν's token; the last value; the lender's part; the slice; true; …; _6; …; _5; …]
         land ! (from ! (stop !)) (init ! 9 refl (subst (λ (y : Val). Holds (hasTy tyUnit y) × WT y) (sym (e .0)) (tt, tt))) $
@@ -125,12 +129,12 @@ module _ {M : Type 1} (𝓤 : URA M) (H : Heap 𝓤) (A : Atoms 𝓤) (W : Given
     (known : Triple 𝓤 (𝓣 .C #runs·replay-cache·refer-all) (ReferAll 𝓤 H A at-mem run)) where
   after-references-walks : Walks 𝓤 H A own.ended stayed (WpFn 𝓤 H (𝓣 .C) (𝓣 .Λ) code.function) (own.clauses 𝓤 H A at-mem run)
   after-references-walks = walked 𝓤 H A own.ended stayed (own.clauses 𝓤 H A at-mem run) (WpFn 𝓤 H (𝓣 .C) (𝓣 .Λ) code.function)
-      (λ κs. (slice-vals, (uint-vals w8, (LL.vals T.the-type T′.the-laws, tt)))) (λ κs. (shr-slice-tells (named 0) (κs .0) u8, (uint-tells w8, (LL.tells T.the-type T′.the-laws, tt))))
-      (λ κs qs bounds a g are. needs 𝓤 ((0 < a .1 .0) × (a .1 .0 ≤ 16) × (a .1 .1 .0 .misses + length (a .0 .now) / 2 < 2 ^ 32)) _ (λ pre.
-      walk 𝓤 H A W at-mem run (κs .0) (qs .0) (a .0) (a .1 .0) (a .1 .1 .0) (are .0) (are .1 .0 .1) (are .1 .1 .0) pre 𝓣 known))
+      (λ κs. (slice-vals, (LL.vals S.the-type S′.the-laws, (LL.vals T.the-type T′.the-laws, tt)))) (λ κs. (shr-slice-tells (named 0) (κs .0) u8, (LL.tells S.the-type S′.the-laws, (LL.tells T.the-type T′.the-laws, tt))))
+      (λ κs qs bounds a g are. needs 𝓤 (ShapeHolds 32 (a .1 .0) × (a .1 .1 .0 .misses + length (a .0 .now) / 2 < 2 ^ 32)) _ (λ pre.
+      walk 𝓤 H A W at-mem run (κs .0) (qs .0) (a .0) (a .1 .0) (a .1 .1 .0) (are .0) (are .1 .0) (are .1 .1 .0) pre 𝓣 known))
 
   all-go : AllGo 𝓤 H A W 1 (own.signature .params) (own.ended .kept) stayed
-  all-go = (goes-none-slice 𝓤 H A W 1 (0 ∷ []) tt (plain (λ _. u8)) yes, (goes-none 𝓤 H A W 1 (λ _. u8) yes (λ κs x f. refl), (goes-none 𝓤 H A W 1 (λ _. R) yes (λ κs x f. refl), tt)))
+  all-go = (goes-none-slice 𝓤 H A W 1 (0 ∷ []) tt (plain (λ _. u8)) yes, (goes-none 𝓤 H A W 1 (λ _. S.the-row) yes (λ κs x f. refl), (goes-none 𝓤 H A W 1 (λ _. R) yes (λ κs x f. refl), tt)))
 
   after-references-meets : Meets 𝓤 H A own.signature (WpFn 𝓤 H (𝓣 .C) (𝓣 .Λ) code.function) (own.spec 𝓤 H A at-mem run)
   after-references-meets = walk-meets 𝓤 H A own.ended stayed W all-go (own.clauses 𝓤 H A at-mem run) (WpFn 𝓤 H (𝓣 .C) (𝓣 .Λ) code.function) (WpFn-mono 𝓤 H (W .laws) 𝓣 code.function) after-references-walks

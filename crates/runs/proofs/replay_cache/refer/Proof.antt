@@ -1,21 +1,31 @@
--- `replay_cache::refer` meets its contract: a walk of its MIR, by hand. The borrow is opened, the cache is copied out and passed to `referred`,
--- and the borrow is closed at the cache returned. Assumes nothing.
-use Rattle.runs.proofs.Walking.{refl, ℕ, _+_, _≤_, _<_, _^_, [], _∷_, List, URA, fullShare, named, w8, Val, vunit, vint, vptr, SProp, ent, sep, exE, snd∗, id⊢, GName}
-use Rattle.runs.proofs.Walking.{Lft, Share, ftrue, flft, fobs, fbor, Memory, Routine, Heap, WpFn, Tables, Atoms, sem, Fun, fact, givenOf, tables, tablesOf, Given, ‵}
-use Rattle.runs.proofs.Walking.{raw, _⊛_, some, later, _$_, _∵_, !, qed, by, move, keep, drop, use1, split, join, pick, fsplit, fsplit3, fjoin, fjoin3, feqI, suffices}
-use Rattle.runs.proofs.Walking.{frame, await, done, look, look-raw, init, store-raw, forget, stop, hop, from, load, unit-lit, of-opd, assigns, and-then, no-more, land}
-use Rattle.runs.proofs.Walking.{returns, enter, alloc1, alloc0, params1, pass1, pass0, free1, free0, Body, fmOf, WpFn-mono, owns, Is, shows, mem, uint-vals, uint-tells}
-use Rattle.runs.proofs.Walking.{uint-makes, u8, RefT, MutRef, ptr-vals, mut-tells, plain, opens, closes, owned, peeks, heard, nothing, spelt, Contract, Triple}
-use Rattle.runs.proofs.Walking.{calls-at, onEntry, Meets, tripleOf, entered, cited, says, needs, Stays, stay-ref, stay-none, walkOf, AllGo, goes-none, goes-ref, Walks}
-use Rattle.runs.proofs.Walking.{ends-at, walked, walk-meets, yes, ensured, lasts}
+-- `replay_cache::refer` meets its contract: a walk of its MIR, by hand. The borrow is opened, the row is lent to `referred` for a lifetime that is
+-- made for the call, and when it is back the count is stored; nothing of the cache is copied. Assumes nothing.
+use mathlib.Core.Path.{ap₂}
+use mathlib.Core.List.{map, map-id}
+use Rattle.runs.proofs.Walking.{_≡_, refl, sym, ap, subst, _∙_, ℕ, _+_, _<_, _^_, [], _∷_, List, Holds, URA, fullShare, named, w32, tyInt, Val, vunit, vint, vptr, vstruct, ofList, hasTy, WT, SProp, ent}
+use Rattle.runs.proofs.Walking.{sep, ex, guard, all, wand, allE, apply∗, id⊢, GName, Lft, Share, ftrue, fat, flft, fobs, fbor, fres, flent, Memory, Routine, Heap, WpFn, Tables}
+use Rattle.runs.proofs.Walking.{Atoms, sem, Fun, fact, givenOf, tables, tablesOf, Given, ‵, raw, given, _⊛_, some, later, _$_, _∵_, !, qed, by, move, keep, drop, use1, use2, use3}
+use Rattle.runs.proofs.Walking.{split, join, pick, learn, fsplit, fsplit3, fjoin, fjoin3, feqI, suffices, frame, await, updating, at-once, show, check, done, look, init, forget}
+use Rattle.runs.proofs.Walking.{stop, hop, fld, from, load, addr, unit-lit, of-opd, assigns, and-then, no-more, land, returns, enter, alloc1, alloc0, params1, pass1, pass0, free1, free0}
+use Rattle.runs.proofs.Walking.{whole, sub, look-in, store-in, lft-new, lft-end, Body, fmOf, WpFn-mono, owns, Is, shows, mem, uint-makes, u32, RefT, MutRef, ptr-vals, mut-tells}
+use Rattle.runs.proofs.Walking.{plain, opens, closes, owned, facts, heard, nothing, only, spelt, Contract, Triple, calls-at, onEntry, Meets, tripleOf, entered, cited, says, needs}
+use Rattle.runs.proofs.Walking.{Stays, stay-ref, stay-none, walkOf, AllGo, goes-none, goes-ref, Walks, ends-at, walked, walk-meets, yes, ensured, lasts}
+use lib.ListN.{length}
 use denote.Struct.Laws as LL
-use Rattle.runs.specs.declared.replay_cache.ReplayCache.{ReplayCache}
+use Rattle.cache.specs.Shape.{shaped}
+use Rattle.cache.specs.Shape.{Holds as ShapeHolds}
+use Rattle.cache.specs.declared.blocks.CacheShape.{CacheShape}
+use Rattle.cache.proofs.blocks.CacheShape as S
+use Rattle.cache.proofs.blocks.CacheShape.Laws as S′
 use Rattle.cache.specs.declared.blocks.MemoryBlock.{MemoryBlock}
-use Rattle.runs.proofs.replay_cache.ReplayCache as T
-use Rattle.runs.proofs.replay_cache.ReplayCache.Laws as T′
 use Rattle.cache.proofs.blocks.MemoryBlock as B
 use Rattle.cache.proofs.blocks.MemoryBlock.Laws as B′
-use Rattle.runs.proofs.LentCache.{R, mach, at-cell, After, typed}
+use Rattle.runs.specs.Running.{rowCount, held, withOwn}
+use Rattle.runs.specs.declared.replay_cache.ReplayCache.{ReplayCache}
+use Rattle.runs.proofs.replay_cache.ReplayCache as T
+use Rattle.runs.proofs.replay_cache.ReplayCache.Laws as T′
+use Rattle.runs.proofs.LentCache.{shapeVal, ShapeIs, shape-typed, R, mach, at-cell, After}
+use Rattle.runs.proofs.LentRow.{Q, rowVal, RowIs, rowTy, cacheTy, rowOf, row-is, withRowVal, at-row, Way, row-out, lends-row, row-back}
 use Rattle.runs.proofs.replay_cache.referred as core
 use Rattle.runs.proofs.replay_cache.referred.Symbol as core-def
 use Rattle.runs.proofs.replay_cache.referred.Symbol.{name as #runs·replay-cache·referred}
@@ -26,93 +36,146 @@ use Rattle.runs.proofs.replay_cache.refer.Statement as stated
 use Rattle.runs.proofs.replay_cache.refer.Code as code
 
 abbrev stayed : Stays (own.ended .signature .params) (own.ended .kept)
-stayed = (stay-ref (0 ∷ []) tt (plain (λ _. R)), (stay-none (λ _. B.the-row) yes, (stay-none (λ _. u8) yes, tt)))
+stayed = (stay-ref (0 ∷ []) tt (plain (λ _. R)), (stay-none (λ _. B.the-row) yes, (stay-none (λ _. S.the-row) yes, tt)))
 
-module _ {M : Type 1} (𝓤 : URA M) (H : Heap 𝓤) (A : Atoms 𝓤) (at-mem : Memory → SProp 𝓤) (run : Routine → Fun 𝓤) where
-  -- the contract that the proof cites
-  abbrev Core : Contract 𝓤
-  Core = tripleOf 𝓤 H A core.signature (core.spec 𝓤 H A at-mem run)
-
-  -- of its `ensured`, the clause alone
-  said : (h : ReplayCache) (m : MemoryBlock) (n : ℕ) (r : ReplayCache) → ent 𝓤 (ensured 𝓤 H A core.ended (core.clauses 𝓤 H A at-mem run) tt (h, (m, (n, tt))) tt r) (fact 𝓤 (After h m n r))
-  said h m n r = exE 𝓤 _ (λ ws. snd∗ 𝓤 (sem 𝓤 H A (lasts core.ended tt (h, (m, (n, tt))) ws)) (fact 𝓤 (After h m n r)))
+-- the contract that the proof cites
+abbrev Core : {M : Type 1} (𝓤 : URA M) (H : Heap 𝓤) (A : Atoms 𝓤) (at-mem : Memory → SProp 𝓤) (run : Routine → Fun 𝓤) → Contract 𝓤
+Core 𝓤 H A at-mem run = tripleOf 𝓤 H A core.signature (core.spec 𝓤 H A at-mem run)
 
 module _ {M : Type 1} (𝓤 : URA M) (H : Heap 𝓤) (A : Atoms 𝓤) (W : Given 𝓤 H A) (at-mem : Memory → SProp 𝓤) (run : Routine → Fun 𝓤) (κ : Lft) (q : Share) (b o : ℕ) (γ : GName)
-    (h : ReplayCache) (m : MemoryBlock) (n : ℕ) (m-is : Is B.the-row m (LL.vals B.the-type B′.the-laws m)) (n-fits : n < 2 ^ 8) (pre : (0 < n) × (n ≤ 16) × (h .misses + 1 < 2 ^ 32)) where
+    (h : ReplayCache) (m : MemoryBlock) (shape : CacheShape) (m-is : Is B.the-row m (LL.vals B.the-type B′.the-laws m)) (shape-is : ShapeIs shape)
+    (pre : ShapeHolds 32 shape × (h .misses + 1 < 2 ^ 32)) where
   abbrev block : Val
   block = LL.val B.the-type B′.the-laws m
 
-  abbrev x : RefT ReplayCache × (MemoryBlock × (ℕ × Unit {0}))
-  x = (at-cell b o γ h, (m, (n, tt)))
+  abbrev x : RefT ReplayCache × (MemoryBlock × (CacheShape × Unit {0}))
+  x = (at-cell b o γ h, (m, (shape, tt)))
 
   abbrev at : List Val × (List Val × (List Val × Unit {0}))
-  at = (vptr b o ∷ [], (block ∷ [], (vint w8 n ∷ [], tt)))
+  at = (vptr b o ∷ [], (block ∷ [], (shapeVal shape ∷ [], tt)))
 
   abbrev Post : Val → SProp 𝓤
   Post = walkOf 𝓤 H A own.ended stayed (own.clauses 𝓤 H A at-mem run) .post (((κ, tt), (q, tt), tt, x, at), tt)
 
-  exits : (r : ReplayCache) → After h m n r → ent 𝓤 (sep 𝓤 (A .obs γ (R .coded .code r)) (sep 𝓤 (A .bor κ (Body (mem R) b o γ)) (A .lft κ q))) (Post vunit)
+  exits : (r : ReplayCache) → After h m shape r → ent 𝓤 (sep 𝓤 (A .obs γ (R .coded .code r)) (sep 𝓤 (A .bor κ (Body (mem R) b o γ)) (A .lft κ q))) (Post vunit)
   exits r e =
       qed W (‵ (fobs γ (R .coded .code r)) ∷ ‵ (fbor κ (Body (mem R) b o γ)) ∷ ‵ (flft κ q) ∷ []) ∵
       suffices ! _ (ends-at 𝓤 H A own.ended stayed (own.clauses 𝓤 H A at-mem run) W (((κ, tt), (q, tt), tt, x, at), tt) vunit tt (r, (tt, (tt, tt))) (tt, (tt, (tt, tt)))) $
       says ! e $ nothing ! $ move ! (3 ∷ 0 ∷ []) $ join ! $
       frame ! $ feqI ! (List Val) (vptr b o ∷ []) (vptr b o ∷ []) refl $ fjoin3 ! $
-      nothing ! $ owned ! u8 (Is u8) (uint-makes 𝓤 H A W w8) n _ (refl, n-fits) $ fjoin ! $
+      nothing ! $ owned ! S.the-row (Is S.the-row) (LL.makes S.the-type S′.the-plain 𝓤 H A) shape _ shape-is $ fjoin ! $
       owned ! B.the-row (Is B.the-row) (LL.makes B.the-type B′.the-plain 𝓤 H A) m _ m-is $ fjoin ! $ move ! (1 ∷ 0 ∷ []) $ fjoin ! $
       feqI ! (List Val) (vunit ∷ []) (vunit ∷ []) refl $ move ! (1 ∷ 0 ∷ []) $ done !
 
-  abbrev to : Core 𝓤 H A at-mem run .Ghost
-  to = ((tt, tt, tt, (h, (m, (n, tt))), (mach h ∷ [], (block ∷ [], (vint w8 n ∷ [], tt)))), tt)
+  -- ---- the call of `referred`: the row, lent for the lifetime ν under the name δ
+  abbrev args : GName → RefT (List ℕ) × (ℕ × (MemoryBlock × (CacheShape × Unit {0})))
+  args δ = (at-row b (o + 0) δ (rowOf h), (h .misses, (m, (shape, tt))))
 
-  goes-core : ent 𝓤 (sem 𝓤 H A (R .own h (mach h ∷ []))) (Core 𝓤 H A at-mem run .pre to)
-  goes-core =
-      qed W (‵ (R .own h (mach h ∷ [])) ∷ []) ∵ says ! pre $
-      nothing ! $ owned ! u8 (Is u8) (uint-makes 𝓤 H A W w8) n _ (refl, n-fits) $ fjoin ! $
-      owned ! B.the-row (Is B.the-row) (LL.makes B.the-type B′.the-plain 𝓤 H A) m _ m-is $ fjoin ! $ move ! (1 ∷ 0 ∷ []) $ fjoin ! $
-      nothing ! $ frame ! $ done !
+  abbrev to : ℕ → GName → Core 𝓤 H A at-mem run .Ghost
+  to ν δ = (((ν ∷ [], tt), (fullShare, tt), tt, args δ, (vptr b (o + 0) ∷ [], (vint w32 (h .misses) ∷ [], (block ∷ [], (shapeVal shape ∷ [], tt))))), tt)
 
-  module _ (𝓣 : Tables 𝓤 H) (known : Triple 𝓤 (𝓣 .C #runs·replay-cache·referred) (Core 𝓤 H A at-mem run)) where
-    walk : ent 𝓤 (onEntry 𝓤 H A own.signature (κ, tt) (q, tt) x at) (WpFn 𝓤 H (𝓣 .C) (𝓣 .Λ) code.function (vptr b o ∷ block ∷ vint w8 n ∷ []) Post)
-    walk =
-        qed W ((‵ (flft κ q) ⊛ ‵ ftrue) ∷ ‵ (owns (MutRef (named 0) κ R ∷ B.the-row ∷ u8 ∷ []) x at) ∷ []) ∵ split ! $ move ! (2 ∷ []) $ fsplit ! $
-        fsplit3 ! $ drop ! $ move ! (0 ∷ 1 ∷ 3 ∷ []) $
-        -- [obs; the borrow; the token; ..]
-        enter ! (𝓣 .C) (𝓣 .Λ) code.function (vptr b o ∷ block ∷ vint w8 n ∷ []) _ $
-        alloc1 ! (λ l₀. alloc1 ! (λ l₁. alloc1 ! (λ l₂. alloc1 ! (λ l₃. alloc1 ! (λ l₄. alloc1 ! (λ l₅. alloc0 ! $ params1 ! $
-        pass1 ! (init ! 8 refl (tt, tt)) $ pass1 ! (init ! 6 refl (LL.lawful B.the-type B′.the-laws 𝓤 H A W .typed m _ m-is .0)) $
-        pass1 ! (init ! 4 refl (tt, record { fits = n-fits })) $ pass0 ! $
-        move ! (12 ∷ 13 ∷ 14 ∷ []) $
-        opens ! tt R {h = h} b o (λ vs. spelt ! R (Is R) (shows 𝓤 H A R) (LL.vals T.the-type T′.the-laws) (LL.tells T.the-type T′.the-laws) fullShare h vs b o $
-        -- [the cell; what the cache owns; the open borrow; obs; auth; _5; …; _4; …; _3; …; _2; …; _1; …; room for _0; …]
-        move ! (1 ∷ []) $ peeks ! R (Is R) (shows 𝓤 H A R) h (mach h ∷ []) (λ g. move ! (1 ∷ 0 ∷ []) $
-        assigns ! (of-opd ! (load ! (from ! (hop ! (look ! 13 refl) (stop !))) (look-raw ! 0 refl))) (from ! (stop !)) (init ! 5 refl (typed 𝓤 H A W h g)) $
-        move ! (1 ∷ []) $ use1 W (raw (Core 𝓤 H A at-mem run .pre to)) goes-core $
-        calls-at ! (fmOf 𝓤 H (W .laws) 𝓣) (Core 𝓤 H A at-mem run) known to
-        (and-then ! (load ! (from ! (stop !)) (look ! 5 refl)) (and-then ! (load ! (from ! (stop !)) (look ! 11 refl)) (and-then ! (load ! (from ! (stop !)) (look ! 9 refl)) (no-more !)))) (λ w.
-        use1 W (later (some (λ (r : ReplayCache). (‵ ftrue ⊛ ‵ (R .own r (w ∷ []))) ⊛ raw (ensured 𝓤 H A core.ended (core.clauses 𝓤 H A at-mem run) tt (h, (m, (n, tt))) tt r)))) (id⊢ 𝓤 _) $
-        await ! tt $ pick ! (λ r.
-        split ! $ move ! (1 ∷ []) $ use1 W (raw (fact 𝓤 (After h m n r))) (said 𝓤 H A at-mem run h m n r) $ heard ! (After h m n r) (λ e. split ! $ drop ! $
-        peeks ! R (Is R) (shows 𝓤 H A R) r (w ∷ []) (λ is.
-        -- [what r owns; the cache's cell; the open borrow; obs; auth; _5; …; _4; …]
-        land ! (from ! (stop !)) (init ! 7 refl (typed 𝓤 H A W r is)) $
-        assigns ! (of-opd ! (load ! (from ! (stop !)) (look ! 7 refl))) (from ! (hop ! (look ! 13 refl) (stop !))) (store-raw ! 1 refl (typed 𝓤 H A W r is)) $
-        assigns ! (of-opd ! (unit-lit !)) (from ! (stop !)) (init ! 15 refl (tt, tt)) $
-        move ! (1 ∷ 0 ∷ []) $ closes ! tt R r (w ∷ []) b o $
-        returns ! (look ! 13 refl) $ forget ! 3 refl $ forget ! 5 refl $ forget ! 7 refl $ forget ! 9 refl $ forget ! 11 refl $ forget ! 13 refl $
-        move ! (13 ∷ 14 ∷ []) $ free1 ! $ move ! (11 ∷ 12 ∷ []) $ free1 ! $ move ! (9 ∷ 10 ∷ []) $ free1 ! $ move ! (7 ∷ 8 ∷ []) $ free1 ! $ move ! (5 ∷ 6 ∷ []) $ free1 ! $
-        move ! (3 ∷ 4 ∷ []) $ free1 ! $ free0 ! $
-        keep ! (0 ∷ 1 ∷ 2 ∷ []) $ by ! (exits r e)))))))))))))
+  -- the row and the count after the reference
+  abbrev AfterRow : List ℕ → ℕ → Type 0
+  AfterRow ys y = rowCount ys y ≡ withOwn (shaped 32 shape) (rowCount (rowOf h) (h .misses)) (m .0)
+
+  module _ (misses-fits : h .misses < 2 ^ 32) (long : length (rowOf h) ≡ 32) where
+    goes : (ν : ℕ) (δ : GName) → ent 𝓤 (sep 𝓤 (A .lft (ν ∷ []) fullShare) (sem 𝓤 H A (MutRef (named 0) (ν ∷ []) Q .own (at-row b (o + 0) δ (rowOf h)) (vptr b (o + 0) ∷ [])))) (Core 𝓤 H A at-mem run .pre (to ν δ))
+    goes ν δ =
+        qed W (‵ (flft (ν ∷ []) fullShare) ∷ ‵ (MutRef (named 0) (ν ∷ []) Q .own (at-row b (o + 0) δ (rowOf h)) (vptr b (o + 0) ∷ [])) ∷ []) ∵ says ! (pre .0, pre .1, long) $ nothing ! $
+        move ! (1 ∷ 0 ∷ []) $ join ! $ frame ! $
+        nothing ! $ owned ! S.the-row (Is S.the-row) (LL.makes S.the-type S′.the-plain 𝓤 H A) shape _ shape-is $ fjoin ! $
+        owned ! B.the-row (Is B.the-row) (LL.makes B.the-type B′.the-plain 𝓤 H A) m _ m-is $ fjoin ! $
+        owned ! u32 (Is u32) (uint-makes 𝓤 H A W w32) (h .misses) _ (refl, misses-fits) $ fjoin ! $ move ! (1 ∷ 0 ∷ []) $ fjoin ! $ done !
+
+    -- the token is back, the result is the count, and the last value is the row
+    abbrev Back : ℕ → GName → Val → List ℕ × ℕ → SProp 𝓤
+    Back ν δ z w = guard 𝓤 (Is u32 (w .1) (z ∷ []) × AfterRow (w .0) (w .1)) (sep 𝓤 (A .lft (ν ∷ []) fullShare) (A .res δ (Q .coded .code (w .0))))
+
+    gives : (ν : ℕ) (δ : GName) (z : Val) → ent 𝓤 (Core 𝓤 H A at-mem run .post (to ν δ) z) (H .⇛ (ex 𝓤 (Back ν δ z)))
+    gives ν δ z =
+        qed W (raw (Core 𝓤 H A at-mem run .post (to ν δ) z) ∷ []) ∵ updating ! $
+        use1 W (later (some (λ (y : ℕ). ((‵ (flft (ν ∷ []) fullShare) ⊛ ‵ ftrue) ⊛ ‵ (u32 .own y (z ∷ []))) ⊛ raw (ensured 𝓤 H A core.ended (core.clauses 𝓤 H A at-mem run) (ν ∷ [], tt) (args δ) tt y))))
+        (id⊢ 𝓤 _) $
+        await ! tt $ pick ! (λ y.
+        split ! $ move ! (1 ∷ []) $
+        use1 W (some (λ (ws : List ℕ × (Unit {0} × (Unit {0} × (Unit {0} × Unit {0})))). ‵ (lasts core.ended (ν ∷ [], tt) (args δ) ws) ⊛ raw (fact 𝓤 (AfterRow (ws .0) y)))) (id⊢ 𝓤 _) $
+        pick ! (λ ws.
+        split ! $ move ! (1 ∷ []) $ heard ! (AfterRow (ws .0) y) (λ e. fsplit ! $ move ! (2 ∷ []) $ split ! $ move ! (1 ∷ []) $
+        facts ! u32 (Is u32) (shows 𝓤 H A u32) y (z ∷ []) (λ is. split ! $
+        at-once ! $ show ! (Back ν δ z) (ws .0, y) $ check ! (is, e) $ keep ! (0 ∷ 2 ∷ []) $ done !))))
+
+  -- ---- the cache afterwards
+  abbrev new : List ℕ → ℕ → ReplayCache
+  new ys y = record { cells = ys; misses = y }
+
+  count-typed : (y : ℕ) (z : Val) → Is u32 y (z ∷ []) → Holds (hasTy (tyInt w32) z) × WT z
+  count-typed y z is = subst (λ (v : Val). Holds (hasTy (tyInt w32) v) × WT v) (sym (ap only (is .0))) (tt, record { fits = is .1 })
+
+  abbrev newVal : List ℕ → Val → Val
+  newVal ys z = vstruct (ofList (rowVal ys ∷ z ∷ []))
+
+  new-is : (ys : List ℕ) (y : ℕ) (z : Val) → RowIs ys → Is u32 y (z ∷ []) → Is R (new ys y) (newVal ys z ∷ [])
+  new-is ys y z good is =
+      subst (λ (v : Val). Is R (new ys y) (v ∷ [])) (ap₂ newVal (map-id ys) (sym (ap only (is .0))))
+      (LL.owes T.the-type T′.the-laws (new ys y) (subst RowIs (sym (map-id ys)) good, ((refl, is .1), tt)))
+
+  walk : (𝓣 : Tables 𝓤 H) → Triple 𝓤 (𝓣 .C #runs·replay-cache·referred) (Core 𝓤 H A at-mem run)
+      → ent 𝓤 (onEntry 𝓤 H A own.signature (κ, tt) (q, tt) x at) (WpFn 𝓤 H (𝓣 .C) (𝓣 .Λ) code.function (vptr b o ∷ block ∷ shapeVal shape ∷ []) Post)
+  walk 𝓣 known =
+      qed W ((‵ (flft κ q) ⊛ ‵ ftrue) ∷ ‵ (owns (MutRef (named 0) κ R ∷ B.the-row ∷ S.the-row ∷ []) x at) ∷ []) ∵ split ! $ move ! (2 ∷ []) $ fsplit ! $
+      fsplit3 ! $ drop ! $ move ! (0 ∷ 1 ∷ 3 ∷ []) $
+      -- [obs; the borrow; the token; ..]
+      enter ! (𝓣 .C) (𝓣 .Λ) code.function (vptr b o ∷ block ∷ shapeVal shape ∷ []) _ $
+      alloc1 ! (λ l₀. alloc1 ! (λ l₁. alloc1 ! (λ l₂. alloc1 ! (λ l₃. alloc1 ! (λ l₄. alloc1 ! (λ l₅. alloc1 ! (λ l₆. alloc0 ! $ params1 ! $
+      pass1 ! (init ! 10 refl (tt, tt)) $ pass1 ! (init ! 8 refl (LL.lawful B.the-type B′.the-laws 𝓤 H A W .typed m _ m-is .0)) $
+      pass1 ! (init ! 6 refl (shape-typed 𝓤 H A W shape shape-is)) $ pass0 ! $
+      move ! (14 ∷ 15 ∷ 16 ∷ []) $
+      opens ! tt R {h = h} b o (λ vs. spelt ! R (Is R) (shows 𝓤 H A R) (LL.vals T.the-type T′.the-laws) (LL.tells T.the-type T′.the-laws) fullShare h vs b o $
+      move ! (1 ∷ []) $ facts ! R (Is R) (shows 𝓤 H A R) h (mach h ∷ []) (λ g.
+      -- [the cell; the open borrow; obs; auth; _6; …; _5; …; _4; …; _3; …; _2; …; _1; …; room for _0; …]
+      assigns ! (addr ! (from ! (hop ! (look ! 14 refl) (fld ! refl (stop !))))) (from ! (stop !)) (init ! 6 refl (tt, tt)) $
+      assigns ! (of-opd ! (load ! (from ! (hop ! (look ! 14 refl) (fld ! refl (stop !)))) (look-in ! 0 (sub ! 1 refl (whole !))))) (from ! (stop !)) (init ! 4 refl (tt, record { fits = row-is h g .1 .1 })) $
+      -- the row is taken out, and lent for a lifetime ν of the call
+      use1 W (‵ (fat fullShare rowTy b (o + 0) (rowVal (rowOf h))) ⊛ raw (all 𝓤 (Way 𝓤 H A W h b o))) (row-out 𝓤 H A W h b o) $ split ! $
+      lft-new ! tt (λ ν. move ! (1 ∷ []) $
+      use1 W (later (some (λ (δ : GName). ‵ (MutRef (named 0) (ν ∷ []) Q .own (at-row b (o + 0) δ (rowOf h)) (vptr b (o + 0) ∷ [])) ⊛ ‵ (flent (ν ∷ []) (Body (mem Q) b (o + 0) δ)))))
+      (lends-row 𝓤 H A W (ν ∷ []) b (o + 0) (named 0) (rowOf h) (row-is h g .0)) $
+      await ! tt $ pick ! (λ δ. split ! $
+      -- [the reference; the lender's part; ν's token; the way back; the open borrow; obs; auth; _6; …]
+      move ! (2 ∷ 0 ∷ []) $ use2 W (raw (Core 𝓤 H A at-mem run .pre (to ν δ))) (goes (row-is h g .1 .1) (row-is h g .0 .1 .0 .1) ν δ) $
+      calls-at ! (fmOf 𝓤 H (W .laws) 𝓣) (Core 𝓤 H A at-mem run) known (to ν δ)
+      (and-then ! (load ! (from ! (stop !)) (look ! 8 refl)) (and-then ! (load ! (from ! (stop !)) (look ! 6 refl))
+      (and-then ! (load ! (from ! (stop !)) (look ! 14 refl)) (and-then ! (load ! (from ! (stop !)) (look ! 12 refl)) (no-more !))))) (λ z.
+      use1 W (later (some (λ (w : List ℕ × ℕ). given (Is u32 (w .1) (z ∷ []) × AfterRow (w .0) (w .1)) (‵ (flft (ν ∷ []) fullShare) ⊛ ‵ (fres δ (Q .coded .code (w .0)))))))
+      (gives (row-is h g .1 .1) (row-is h g .0 .1 .0 .1) ν δ z) $
+      await ! tt $ pick ! (λ w. learn ! (λ e. split ! $
+      -- [ν's token; the last row; the lender's part; the way back; the open borrow; obs; auth; _6; …]
+      land ! (from ! (stop !)) (init ! 11 refl (count-typed (w .1) z (e .0))) $
+      lft-end ! tt $ move ! (0 ∷ 2 ∷ 1 ∷ []) $
+      use3 W (later (given (RowIs (w .0)) (‵ (fat fullShare rowTy b (o + 0) (rowVal (w .0)))))) (row-back 𝓤 H A W (ν ∷ []) b (o + 0) δ (w .0)) $ await ! tt $ learn ! (λ good.
+      -- [the row; the way back; the open borrow; obs; auth; _6; …]
+      move ! (1 ∷ []) $ use1 W (raw (Way 𝓤 H A W h b o (rowVal (w .0)))) (allE 𝓤 (Way 𝓤 H A W h b o) (rowVal (w .0))) $ move ! (1 ∷ 0 ∷ []) $
+      use2 W (‵ (fat fullShare cacheTy b o (withRowVal h (rowVal (w .0))))) (apply∗ 𝓤 (H .at fullShare rowTy b (o + 0) (rowVal (w .0))) (H .at fullShare cacheTy b o (withRowVal h (rowVal (w .0))))) $
+      -- [the cell; the open borrow; obs; auth; _6; …]
+      assigns ! (of-opd ! (load ! (from ! (stop !)) (look ! 8 refl))) (from ! (hop ! (look ! 14 refl) (fld ! refl (stop !)))) (store-in ! 0 (sub ! 1 refl (whole !)) (count-typed (w .1) z (e .0))) $
+      assigns ! (of-opd ! (unit-lit !)) (from ! (stop !)) (init ! 16 refl (tt, tt)) $
+      owned ! R (Is R) (LL.makes T.the-type T′.the-plain 𝓤 H A) (new (w .0) (w .1)) (newVal (w .0) z ∷ []) (new-is (w .0) (w .1) z good (e .0)) $
+      move ! (1 ∷ 0 ∷ []) $ closes ! tt R (new (w .0) (w .1)) (newVal (w .0) z ∷ []) b o $
+      returns ! (look ! 15 refl) $ forget ! 3 refl $ forget ! 5 refl $ forget ! 7 refl $ forget ! 9 refl $ forget ! 11 refl $ forget ! 13 refl $ forget ! 15 refl $
+      move ! (15 ∷ 16 ∷ []) $ free1 ! $ move ! (13 ∷ 14 ∷ []) $ free1 ! $ move ! (11 ∷ 12 ∷ []) $ free1 ! $ move ! (9 ∷ 10 ∷ []) $ free1 ! $ move ! (7 ∷ 8 ∷ []) $ free1 ! $
+      move ! (5 ∷ 6 ∷ []) $ free1 ! $ move ! (3 ∷ 4 ∷ []) $ free1 ! $ free0 ! $
+      keep ! (0 ∷ 1 ∷ 2 ∷ []) $ by ! (exits (new (w .0) (w .1)) (e .1 ∙ ap (λ (row : List ℕ). withOwn (shaped 32 shape) (rowCount row (h .misses)) (m .0)) (map-id (h .cells)))))))))))))))))))
 
 module _ {M : Type 1} (𝓤 : URA M) (H : Heap 𝓤) (A : Atoms 𝓤) (W : Given 𝓤 H A) (at-mem : Memory → SProp 𝓤) (run : Routine → Fun 𝓤) (𝓣 : Tables 𝓤 H)
     (known : Triple 𝓤 (𝓣 .C #runs·replay-cache·referred) (Core 𝓤 H A at-mem run)) where
   refer-walks : Walks 𝓤 H A own.ended stayed (WpFn 𝓤 H (𝓣 .C) (𝓣 .Λ) code.function) (own.clauses 𝓤 H A at-mem run)
   refer-walks = walked 𝓤 H A own.ended stayed (own.clauses 𝓤 H A at-mem run) (WpFn 𝓤 H (𝓣 .C) (𝓣 .Λ) code.function)
-      (λ κs. (ptr-vals, (LL.vals B.the-type B′.the-laws, (uint-vals w8, tt)))) (λ κs. (mut-tells (named 0) (κs .0) R, (LL.tells B.the-type B′.the-laws, (uint-tells w8, tt))))
-      (λ κs qs bounds a g are. needs 𝓤 ((0 < a .1 .1 .0) × (a .1 .1 .0 ≤ 16) × (a .0 .now .misses + 1 < 2 ^ 32)) _ (λ pre.
-      walk 𝓤 H A W at-mem run (κs .0) (qs .0) (a .0 .ptr .0) (a .0 .ptr .1) (a .0 .name) (a .0 .now) (a .1 .0) (a .1 .1 .0) (are .1 .0) (are .1 .1 .0 .1) pre 𝓣 known))
+      (λ κs. (ptr-vals, (LL.vals B.the-type B′.the-laws, (LL.vals S.the-type S′.the-laws, tt)))) (λ κs. (mut-tells (named 0) (κs .0) R, (LL.tells B.the-type B′.the-laws, (LL.tells S.the-type S′.the-laws, tt))))
+      (λ κs qs bounds a g are. needs 𝓤 (ShapeHolds 32 (a .1 .1 .0) × (a .0 .now .misses + 1 < 2 ^ 32)) _ (λ pre.
+      walk 𝓤 H A W at-mem run (κs .0) (qs .0) (a .0 .ptr .0) (a .0 .ptr .1) (a .0 .name) (a .0 .now) (a .1 .0) (a .1 .1 .0) (are .1 .0) (are .1 .1 .0) pre 𝓣 known))
 
   all-go : AllGo 𝓤 H A W 1 (own.signature .params) (own.ended .kept) stayed
-  all-go = (goes-ref 𝓤 H A W 1 0 tt (plain (λ _. R)), (goes-none 𝓤 H A W 1 (λ _. B.the-row) yes (λ κs x f. refl), (goes-none 𝓤 H A W 1 (λ _. u8) yes (λ κs x f. refl), tt)))
+  all-go = (goes-ref 𝓤 H A W 1 0 tt (plain (λ _. R)), (goes-none 𝓤 H A W 1 (λ _. B.the-row) yes (λ κs x f. refl), (goes-none 𝓤 H A W 1 (λ _. S.the-row) yes (λ κs x f. refl), tt)))
 
   refer-meets : Meets 𝓤 H A own.signature (WpFn 𝓤 H (𝓣 .C) (𝓣 .Λ) code.function) (own.spec 𝓤 H A at-mem run)
   refer-meets = walk-meets 𝓤 H A own.ended stayed W all-go (own.clauses 𝓤 H A at-mem run) (WpFn 𝓤 H (𝓣 .C) (𝓣 .Λ) code.function) (WpFn-mono 𝓤 H (W .laws) 𝓣 code.function) refer-walks

@@ -16,16 +16,20 @@ use Rattle.runs.proofs.Walking.{stay-none, stay-none-slice, walkOf, All
 use Rattle.runs.proofs.Walking.{yes}
 use lib.ListN.{length, drop as dropN}
 use denote.Struct.Laws as LL
-use Rattle.cache.specs.Cache.{wide}
+use Rattle.cache.specs.Shape.{shaped}
 use Rattle.cache.specs.References.{numberAt, numbers}
 use Rattle.cache.specs.declared.blocks.MemoryBlock.{MemoryBlock}
+use Rattle.cache.specs.Shape.{Holds as ShapeHolds}
+use Rattle.cache.specs.declared.blocks.CacheShape.{CacheShape}
+use Rattle.cache.proofs.blocks.CacheShape as S
+use Rattle.cache.proofs.blocks.CacheShape.Laws as S′
 use Rattle.cache.proofs.blocks.MemoryBlock as B
 use Rattle.cache.proofs.blocks.MemoryBlock.Laws as B′
 use Rattle.model.specs.Runs.{ownReferences}
 use Rattle.runs.specs.Running.{held}
 use Rattle.runs.specs.declared.replay_cache.ReplayCache.{ReplayCache}
 use Rattle.runs.proofs.CacheLaws.{references-turn, references-end, reference-adds}
-use Rattle.runs.proofs.LentCache.{R, at-cell, After, AfterAll}
+use Rattle.runs.proofs.LentCache.{shapeVal, ShapeIs, shape-typed, R, at-cell, After, AfterAll}
 use Rattle.runs.proofs.replay_cache.refer as refer
 use Rattle.runs.proofs.replay_cache.refer.Symbol as refer-def
 use Rattle.runs.proofs.replay_cache.refer.Symbol.{name as #runs·replay-cache·refer}
@@ -40,7 +44,7 @@ use Rattle.runs.proofs.replay_cache.refer_all.Statement as stated
 use Rattle.runs.proofs.replay_cache.refer_all.Code as code
 
 abbrev stayed : Stays (own.ended .signature .params) (own.ended .kept)
-stayed = (stay-none-slice (0 ∷ []) tt (plain (λ _. u8)) yes, (stay-none (λ _. u8) yes, (stay-ref (1 ∷ []) tt (plain (λ _. R)), tt)))
+stayed = (stay-none-slice (0 ∷ []) tt (plain (λ _. u8)) yes, (stay-none (λ _. S.the-row) yes, (stay-ref (1 ∷ []) tt (plain (λ _. R)), tt)))
 
 -- the MIR type of local j
 abbrev ty : ℕ → Ty
@@ -60,8 +64,8 @@ abbrev ReferenceAt : {M : Type 1} (𝓤 : URA M) (H : Heap 𝓤) (A : Atoms 𝓤
 ReferenceAt 𝓤 H A at-mem run = tripleOf 𝓤 H A reference-at.signature (reference-at.spec 𝓤 H A at-mem run)
 
 module _ {M : Type 1} (𝓤 : URA M) (H : Heap 𝓤) (A : Atoms 𝓤) (W : Given 𝓤 H A) (at-mem : Memory → SProp 𝓤) (run : Routine → Fun 𝓤)
-    (κ κ′ : Lft) (q q′ : Share) (s : RefT (List ℕ)) (n b o : ℕ) (γ : GName) (h : ReplayCache) (s-is : Is (ShrSlice (named 0) κ u8) s (sliceVal (s .ptr) (length (s .now)) ∷ [])) (n-fits : n < 2 ^ 8)
-    (pre : (0 < n) × (n ≤ 16) × (h .misses + length (s .now) / 2 < 2 ^ 32)) where
+    (κ κ′ : Lft) (q q′ : Share) (s : RefT (List ℕ)) (shape : CacheShape) (b o : ℕ) (γ : GName) (h : ReplayCache) (s-is : Is (ShrSlice (named 0) κ u8) s (sliceVal (s .ptr) (length (s .now)) ∷ [])) (shape-is : ShapeIs shape)
+    (pre : ShapeHolds 32 shape × (h .misses + length (s .now) / 2 < 2 ^ 32)) where
   abbrev xs : List ℕ
   xs = s .now
 
@@ -77,22 +81,22 @@ module _ {M : Type 1} (𝓤 : URA M) (H : Heap 𝓤) (A : Atoms 𝓤) (W : Given
   abbrev Lent : ReplayCache → Fml
   Lent k = MutRef (named 1) κ′ R .own (at-cell b o γ k) (vptr b o ∷ [])
 
-  abbrev x : RefT (List ℕ) × (ℕ × (RefT ReplayCache × Unit {0}))
-  x = (s, (n, (at-cell b o γ h, tt)))
+  abbrev x : RefT (List ℕ) × (CacheShape × (RefT ReplayCache × Unit {0}))
+  x = (s, (shape, (at-cell b o γ h, tt)))
 
   abbrev at : List Val × (List Val × (List Val × Unit {0}))
-  at = (v ∷ [], (vint w8 n ∷ [], (vptr b o ∷ [], tt)))
+  at = (v ∷ [], (shapeVal shape ∷ [], (vptr b o ∷ [], tt)))
 
   abbrev Post : Val → SProp 𝓤
   Post = walkOf 𝓤 H A own.ended stayed (own.clauses 𝓤 H A at-mem run) .post (((κ, (κ′, tt)), (q, (q′, tt)), tt, x, at), tt)
 
-  exits : (k : ReplayCache) → AfterAll h xs n k → ent 𝓤 (⋆ 𝓤 H A (‵ (Lent k) ∷ ‵ (flft κ′ q′) ∷ ‵ Own ∷ ‵ (flft κ q) ∷ [])) (Post vunit)
+  exits : (k : ReplayCache) → AfterAll h xs shape k → ent 𝓤 (⋆ 𝓤 H A (‵ (Lent k) ∷ ‵ (flft κ′ q′) ∷ ‵ Own ∷ ‵ (flft κ q) ∷ [])) (Post vunit)
   exits k e =
       qed W (‵ (Lent k) ∷ ‵ (flft κ′ q′) ∷ ‵ Own ∷ ‵ (flft κ q) ∷ []) ∵
       suffices ! _ (ends-at 𝓤 H A own.ended stayed (own.clauses 𝓤 H A at-mem run) W (((κ, (κ′, tt)), (q, (q′, tt)), tt, x, at), tt) vunit tt (tt, (tt, (k, tt))) (tt, (tt, (tt, tt)))) $
       says ! e $
       nothing ! $ move ! (2 ∷ 0 ∷ []) $ join ! $ move ! (3 ∷ 0 ∷ []) $ join ! $ frame ! $
-      nothing ! $ move ! (1 ∷ 0 ∷ []) $ fjoin ! $ owned ! u8 (Is u8) (uint-makes 𝓤 H A W w8) n _ (refl, n-fits) $ fjoin ! $ move ! (1 ∷ 0 ∷ []) $ fjoin ! $ frame ! $
+      nothing ! $ move ! (1 ∷ 0 ∷ []) $ fjoin ! $ owned ! S.the-row (Is S.the-row) (LL.makes S.the-type S′.the-plain 𝓤 H A) shape _ shape-is $ fjoin ! $ move ! (1 ∷ 0 ∷ []) $ fjoin ! $ frame ! $
       feqI ! (List Val) (vunit ∷ []) (vunit ∷ []) refl $ done !
 
   -- ---- the call of `reference_at`
@@ -109,37 +113,37 @@ module _ {M : Type 1} (𝓤 : URA M) (H : Heap 𝓤) (A : Atoms 𝓤) (W : Given
 
   -- ---- the call of `refer`: the cache k, lent for the lifetime ν under the name δ; u is the machine value of m
   abbrev to : ReplayCache → MemoryBlock → Val → ℕ → GName → Refer 𝓤 H A at-mem run .Ghost
-  to k m u ν δ = (((ν ∷ [], tt), (fullShare, tt), tt, (at-cell b o δ k, (m, (n, tt))), (vptr b o ∷ [], (u ∷ [], (vint w8 n ∷ [], tt)))), tt)
+  to k m u ν δ = (((ν ∷ [], tt), (fullShare, tt), tt, (at-cell b o δ k, (m, (shape, tt))), (vptr b o ∷ [], (u ∷ [], (shapeVal shape ∷ [], tt)))), tt)
 
   goes : (k : ReplayCache) (m : MemoryBlock) (u : Val) (ν : ℕ) (δ : GName) → Is B.the-row m (u ∷ []) → k .misses + 1 < 2 ^ 32
       → ent 𝓤 (sep 𝓤 (A .lft (ν ∷ []) fullShare) (sem 𝓤 H A (MutRef (named 0) (ν ∷ []) R .own (at-cell b o δ k) (vptr b o ∷ [])))) (Refer 𝓤 H A at-mem run .pre (to k m u ν δ))
   goes k m u ν δ m-is few =
-      qed W (‵ (flft (ν ∷ []) fullShare) ∷ ‵ (MutRef (named 0) (ν ∷ []) R .own (at-cell b o δ k) (vptr b o ∷ [])) ∷ []) ∵ says ! (pre .0, pre .1, few) $ nothing ! $
+      qed W (‵ (flft (ν ∷ []) fullShare) ∷ ‵ (MutRef (named 0) (ν ∷ []) R .own (at-cell b o δ k) (vptr b o ∷ [])) ∷ []) ∵ says ! (pre .0, few) $ nothing ! $
       move ! (1 ∷ 0 ∷ []) $ join ! $ frame ! $
-      nothing ! $ owned ! u8 (Is u8) (uint-makes 𝓤 H A W w8) n _ (refl, n-fits) $ fjoin ! $
+      nothing ! $ owned ! S.the-row (Is S.the-row) (LL.makes S.the-type S′.the-plain 𝓤 H A) shape _ shape-is $ fjoin ! $
       owned ! B.the-row (Is B.the-row) (LL.makes B.the-type B′.the-plain 𝓤 H A) m _ m-is $ fjoin ! $ move ! (1 ∷ 0 ∷ []) $ fjoin ! $ done !
 
   -- the result is (), the token is back, and the last value is the cache after the reference
   abbrev Back : ReplayCache → MemoryBlock → ℕ → GName → Val → ReplayCache → SProp 𝓤
-  Back k m ν δ z r = guard 𝓤 ((z ≡ vunit) × After k m n r) (sep 𝓤 (A .lft (ν ∷ []) fullShare) (A .res δ (R .coded .code r)))
+  Back k m ν δ z r = guard 𝓤 ((z ≡ vunit) × After k m shape r) (sep 𝓤 (A .lft (ν ∷ []) fullShare) (A .res δ (R .coded .code r)))
 
   gives : (k : ReplayCache) (m : MemoryBlock) (u : Val) (ν : ℕ) (δ : GName) (z : Val) → ent 𝓤 (Refer 𝓤 H A at-mem run .post (to k m u ν δ) z) (H .⇛ (ex 𝓤 (Back k m ν δ z)))
   gives k m u ν δ z =
       qed W (raw (Refer 𝓤 H A at-mem run .post (to k m u ν δ) z) ∷ []) ∵ updating ! $
-      use1 W (later (some (λ (y : Unit {0}). ((‵ (flft (ν ∷ []) fullShare) ⊛ ‵ ftrue) ⊛ ‵ (Nothing .own y (z ∷ []))) ⊛ raw (ensured 𝓤 H A refer.ended (refer.clauses 𝓤 H A at-mem run) (ν ∷ [], tt) (at-cell b o δ k, (m, (n, tt))) tt y))))
+      use1 W (later (some (λ (y : Unit {0}). ((‵ (flft (ν ∷ []) fullShare) ⊛ ‵ ftrue) ⊛ ‵ (Nothing .own y (z ∷ []))) ⊛ raw (ensured 𝓤 H A refer.ended (refer.clauses 𝓤 H A at-mem run) (ν ∷ [], tt) (at-cell b o δ k, (m, (shape, tt))) tt y))))
       (id⊢ 𝓤 _) $
       await ! tt $ pick ! (λ y.
       split ! $ move ! (1 ∷ []) $
-      use1 W (some (λ (ws : ReplayCache × (Unit {0} × (Unit {0} × Unit {0}))). ‵ (lasts refer.ended (ν ∷ [], tt) (at-cell b o δ k, (m, (n, tt))) ws) ⊛ raw (fact 𝓤 (After k m n (ws .0))))) (id⊢ 𝓤 _) $
+      use1 W (some (λ (ws : ReplayCache × (Unit {0} × (Unit {0} × Unit {0}))). ‵ (lasts refer.ended (ν ∷ [], tt) (at-cell b o δ k, (m, (shape, tt))) ws) ⊛ raw (fact 𝓤 (After k m shape (ws .0))))) (id⊢ 𝓤 _) $
       pick ! (λ ws.
-      split ! $ move ! (1 ∷ []) $ heard ! (After k m n (ws .0)) (λ e. fsplit ! $ move ! (2 ∷ []) $ split ! $ move ! (1 ∷ []) $ feqL ! (λ is. split ! $
+      split ! $ move ! (1 ∷ []) $ heard ! (After k m shape (ws .0)) (λ e. fsplit ! $ move ! (2 ∷ []) $ split ! $ move ! (1 ∷ []) $ feqL ! (λ is. split ! $
       at-once ! $ show ! (Back k m ν δ z) (ws .0) $ check ! (ap only is, e) $ keep ! (0 ∷ 2 ∷ []) $ done !))))
 
   -- ---- the loop: its state, and the order in which the state falls
   abbrev Facts : ℕ → ReplayCache → Type 0
   Facts i k =
       (i ≤ N) × (k .misses ≤ h .misses + i)
-      × (ownReferences (wide 16 n) (held k) (dropN i (numbers xs)) ≡ ownReferences (wide 16 n) (held h) (numbers xs))
+      × (ownReferences (shaped 32 shape) (held k) (dropN i (numbers xs)) ≡ ownReferences (shaped 32 shape) (held h) (numbers xs))
 
   abbrev State : Type 0
   State = (i : ℕ) × ((k : ReplayCache) × Facts i k)
@@ -155,21 +159,21 @@ module _ {M : Type 1} (𝓤 : URA M) (H : Heap 𝓤) (A : Atoms 𝓤) (W : Given
       let a : length xs < 2 ^ 64 = s-is .0 .1 .0 in
       omega (arith, t .1 .1 .0)
 
-  abbrev next : (t : State) → t .0 < N → (m : MemoryBlock) → m .0 ≡ numberAt xs (2 * t .0) → (r : ReplayCache) → After (t .1 .0) m n r → State
+  abbrev next : (t : State) → t .0 < N → (m : MemoryBlock) → m .0 ≡ numberAt xs (2 * t .0) → (r : ReplayCache) → After (t .1 .0) m shape r → State
   next t less m em r e = (
     t .0 + 1,
     (
       r,
       (
         omega arith,
-        omega (arith, t .1 .1 .1, reference-adds (wide 16 n) (m .0) (t .1 .0 .cells) (t .1 .0 .misses) e),
-        references-turn (wide 16 n) xs (t .0) (t .1 .0 .cells) (t .1 .0 .misses) less em e ∙ t .1 .1 .2,
+        omega (arith, t .1 .1 .1, reference-adds (shaped 32 shape) (m .0) (t .1 .0 .cells) (t .1 .0 .misses) e),
+        references-turn (shaped 32 shape) xs (t .0) (t .1 .0 .cells) (t .1 .0 .misses) less em e ∙ t .1 .1 .2,
       ),
     ),
   )
 
   few : (t : State) → t .0 < N → t .1 .0 .misses + 1 < 2 ^ 32
-  few t less = omega (arith, t .1 .1 .1, pre .2)
+  few t less = omega (arith, t .1 .1 .1, pre .1)
 
   module _ (𝓣 : Tables 𝓤 H) (known-at : Triple 𝓤 (𝓣 .C #runs·replay-cache·reference-at) (ReferenceAt 𝓤 H A at-mem run))
       (known : Triple 𝓤 (𝓣 .C #runs·replay-cache·refer) (Refer 𝓤 H A at-mem run)) where
@@ -192,7 +196,7 @@ module _ {M : Type 1} (𝓤 : URA M) (H : Heap 𝓤) (A : Atoms 𝓤) (W : Given
           ‵ (Lent (t .1 .0)) ∷ ‵ (flft κ′ q′) ∷ ‵ Own ∷ ‵ (flft κ q)
           ∷ ‵ (froom (ty 10) l₁₀ 0) ∷ ‵ (fdies (ty 10) l₁₀) ∷ ‵ (froom (ty 9) l₉ 0) ∷ ‵ (fdies (ty 9) l₉) ∷ ‵ (froom (ty 8) l₈ 0) ∷ ‵ (fdies (ty 8) l₈) ∷ ‵ (froom (ty 7) l₇ 0) ∷ ‵ (fdies (ty 7) l₇)
           ∷ ‵ (fat fullShare (ty 6) l₆ 0 (vint w64 (length xs))) ∷ ‵ (fdies (ty 6) l₆) ∷ ‵ (fat fullShare (ty 5) l₅ 0 (vint w64 N)) ∷ ‵ (fdies (ty 5) l₅) ∷ ‵ (fat fullShare (ty 4) l₄ 0 (vint w64 (t .0))) ∷ ‵ (fdies (ty 4) l₄)
-          ∷ ‵ (fat fullShare (ty 3) l₃ 0 (vptr b o)) ∷ ‵ (fdies (ty 3) l₃) ∷ ‵ (fat fullShare (ty 2) l₂ 0 (vint w8 n)) ∷ ‵ (fdies (ty 2) l₂) ∷ ‵ (fat fullShare (ty 1) l₁ 0 v) ∷ ‵ (fdies (ty 1) l₁) ∷ ‵ (froom (ty 0) l₀ 0) ∷ ‵ (fdies (ty 0) l₀) ∷ []
+          ∷ ‵ (fat fullShare (ty 3) l₃ 0 (vptr b o)) ∷ ‵ (fdies (ty 3) l₃) ∷ ‵ (fat fullShare (ty 2) l₂ 0 (shapeVal shape)) ∷ ‵ (fdies (ty 2) l₂) ∷ ‵ (fat fullShare (ty 1) l₁ 0 v) ∷ ‵ (fdies (ty 1) l₁) ∷ ‵ (froom (ty 0) l₀ 0) ∷ ‵ (fdies (ty 0) l₀) ∷ []
 
       abbrev Turned : State → Out → SProp 𝓤
       Turned t = afterTurn 𝓤 H (Below 𝓤 H A Nearer At t) (afterBlock 𝓤 H (afterSeq 𝓤 H (Wp 𝓤 H C Λ En rest (atReturn 𝓤 H En Post)) (atReturn 𝓤 H En Post)))
@@ -226,7 +230,7 @@ module _ {M : Type 1} (𝓤 : URA M) (H : Heap 𝓤) (A : Atoms 𝓤) (W : Given
           move ! (2 ∷ 0 ∷ []) $ use2 W (raw (Refer 𝓤 H A at-mem run .pre (to (t .1 .0) m u ν δ))) (goes (t .1 .0) m u ν δ m-is (few t (ltb→lt (t .0) N less))) $
           calls-at ! fm (Refer 𝓤 H A at-mem run) known (to (t .1 .0) m u ν δ)
           (and-then ! (load ! (from ! (stop !)) (look ! 6 refl)) (and-then ! (load ! (from ! (stop !)) (look ! 4 refl)) (and-then ! (load ! (from ! (stop !)) (look ! 20 refl)) (no-more !)))) (λ z.
-          use1 W (later (some (λ (r : ReplayCache). given ((z ≡ vunit) × After (t .1 .0) m n r) (‵ (flft (ν ∷ []) fullShare) ⊛ ‵ (fres δ (R .coded .code r)))))) (gives (t .1 .0) m u ν δ z) $
+          use1 W (later (some (λ (r : ReplayCache). given ((z ≡ vunit) × After (t .1 .0) m shape r) (‵ (flft (ν ∷ []) fullShare) ⊛ ‵ (fres δ (R .coded .code r)))))) (gives (t .1 .0) m u ν δ z) $
           await ! tt $ pick ! (λ r. learn ! (λ e. split ! $
           -- [the call's token; the last value; what is lent again; the slice's token; what the slice owns; _10; …]
           land ! (from ! (stop !)) (init ! 9 refl (subst (λ (y : Val). Holds (hasTy tyUnit y) × WT y) (sym (e .0)) (tt, tt))) $
@@ -243,18 +247,18 @@ module _ {M : Type 1} (𝓤 : URA M) (H : Heap 𝓤) (A : Atoms 𝓤) (W : Given
           move ! (24 ∷ 25 ∷ []) $ free1 ! $ move ! (22 ∷ 23 ∷ []) $ free1 ! $ move ! (20 ∷ 21 ∷ []) $ free1 ! $ move ! (18 ∷ 19 ∷ []) $ free1 ! $ move ! (16 ∷ 17 ∷ []) $
           free1 ! $ move ! (14 ∷ 15 ∷ []) $ free1 ! $ move ! (12 ∷ 13 ∷ []) $ free1 ! $ move ! (10 ∷ 11 ∷ []) $ free1 ! $ move ! (8 ∷ 9 ∷ []) $ free1 ! $ move ! (6 ∷ 7 ∷ []) $
           free1 ! $ move ! (4 ∷ 5 ∷ []) $ free1 ! $ free0 ! $
-          keep ! (0 ∷ 1 ∷ 2 ∷ 3 ∷ []) $ by ! (exits (t .1 .0) (references-end (wide 16 n) xs (t .0) (t .1 .0 .cells) (t .1 .0 .misses) (nltb→le (t .0) N over) ∙ t .1 .1 .2)))
+          keep ! (0 ∷ 1 ∷ 2 ∷ 3 ∷ []) $ by ! (exits (t .1 .0) (references-end (shaped 32 shape) xs (t .0) (t .1 .0 .cells) (t .1 .0 .misses) (nltb→le (t .0) N over) ∙ t .1 .1 .2)))
 
     abbrev start : State
     start = (0, (h, (omega arith, omega arith, refl)))
 
-    walk : ent 𝓤 (onEntry 𝓤 H A own.signature (κ, (κ′, tt)) (q, (q′, tt)) x at) (WpFn 𝓤 H C Λ code.function (v ∷ vint w8 n ∷ vptr b o ∷ []) Post)
+    walk : ent 𝓤 (onEntry 𝓤 H A own.signature (κ, (κ′, tt)) (q, (q′, tt)) x at) (WpFn 𝓤 H C Λ code.function (v ∷ shapeVal shape ∷ vptr b o ∷ []) Post)
     walk =
-        qed W ((‵ (flft κ q) ⊛ ‵ (flft κ′ q′) ⊛ ‵ ftrue) ∷ ‵ (owns (ShrSlice (named 0) κ u8 ∷ u8 ∷ MutRef (named 1) κ′ R ∷ []) x at) ∷ []) ∵
-        enter ! C Λ code.function (v ∷ vint w8 n ∷ vptr b o ∷ []) _ $
+        qed W ((‵ (flft κ q) ⊛ ‵ (flft κ′ q′) ⊛ ‵ ftrue) ∷ ‵ (owns (ShrSlice (named 0) κ u8 ∷ S.the-row ∷ MutRef (named 1) κ′ R ∷ []) x at) ∷ []) ∵
+        enter ! C Λ code.function (v ∷ shapeVal shape ∷ vptr b o ∷ []) _ $
         alloc1 ! (λ l₀. alloc1 ! (λ l₁. alloc1 ! (λ l₂. alloc1 ! (λ l₃. alloc1 ! (λ l₄. alloc1 ! (λ l₅. alloc1 ! (λ l₆. alloc1 ! (λ l₇. alloc1 ! (λ l₈. alloc1 ! (λ l₉. alloc1 ! (λ l₁₀. alloc0 ! $
         params1 ! $
-        pass1 ! (init ! 18 refl (shr-slice-lawful 𝓤 H A W (named 0) κ u8 .typed s (v ∷ []) s-is .0)) $ pass1 ! (init ! 16 refl (tt, record { fits = n-fits })) $
+        pass1 ! (init ! 18 refl (shr-slice-lawful 𝓤 H A W (named 0) κ u8 .typed s (v ∷ []) s-is .0)) $ pass1 ! (init ! 16 refl (shape-typed 𝓤 H A W shape shape-is)) $
         pass1 ! (init ! 14 refl (tt, tt)) $ pass0 ! $
         -- local j at 2 * (10 - j); then the tokens, and what the parameters own
         move ! (23 ∷ []) $ fsplit ! $ move ! (1 ∷ []) $ fsplit ! $ drop ! $ fsplit ! $ move ! (25 ∷ []) $ split ! $ move ! (1 ∷ []) $ split ! $
@@ -269,12 +273,12 @@ module _ {M : Type 1} (𝓤 : URA M) (H : Heap 𝓤) (A : Atoms 𝓤) (W : Given
     (known-at : Triple 𝓤 (𝓣 .C #runs·replay-cache·reference-at) (ReferenceAt 𝓤 H A at-mem run)) (known : Triple 𝓤 (𝓣 .C #runs·replay-cache·refer) (Refer 𝓤 H A at-mem run)) where
   refer-all-walks : Walks 𝓤 H A own.ended stayed (WpFn 𝓤 H (𝓣 .C) (𝓣 .Λ) code.function) (own.clauses 𝓤 H A at-mem run)
   refer-all-walks = walked 𝓤 H A own.ended stayed (own.clauses 𝓤 H A at-mem run) (WpFn 𝓤 H (𝓣 .C) (𝓣 .Λ) code.function)
-      (λ κs. (slice-vals, (uint-vals w8, (ptr-vals, tt)))) (λ κs. (shr-slice-tells (named 0) (κs .0) u8, (uint-tells w8, (mut-tells (named 1) (κs .1 .0) R, tt))))
-      (λ κs qs bounds a g are. needs 𝓤 ((0 < a .1 .0) × (a .1 .0 ≤ 16) × (a .1 .1 .0 .now .misses + length (a .0 .now) / 2 < 2 ^ 32)) _ (λ pre.
-      walk 𝓤 H A W at-mem run (κs .0) (κs .1 .0) (qs .0) (qs .1 .0) (a .0) (a .1 .0) (a .1 .1 .0 .ptr .0) (a .1 .1 .0 .ptr .1) (a .1 .1 .0 .name) (a .1 .1 .0 .now) (are .0) (are .1 .0 .1) pre 𝓣 known-at known))
+      (λ κs. (slice-vals, (LL.vals S.the-type S′.the-laws, (ptr-vals, tt)))) (λ κs. (shr-slice-tells (named 0) (κs .0) u8, (LL.tells S.the-type S′.the-laws, (mut-tells (named 1) (κs .1 .0) R, tt))))
+      (λ κs qs bounds a g are. needs 𝓤 (ShapeHolds 32 (a .1 .0) × (a .1 .1 .0 .now .misses + length (a .0 .now) / 2 < 2 ^ 32)) _ (λ pre.
+      walk 𝓤 H A W at-mem run (κs .0) (κs .1 .0) (qs .0) (qs .1 .0) (a .0) (a .1 .0) (a .1 .1 .0 .ptr .0) (a .1 .1 .0 .ptr .1) (a .1 .1 .0 .name) (a .1 .1 .0 .now) (are .0) (are .1 .0) pre 𝓣 known-at known))
 
   all-go : AllGo 𝓤 H A W 2 (own.signature .params) (own.ended .kept) stayed
-  all-go = (goes-none-slice 𝓤 H A W 2 (0 ∷ []) tt (plain (λ _. u8)) yes, (goes-none 𝓤 H A W 2 (λ _. u8) yes (λ κs x f. refl), (goes-ref 𝓤 H A W 2 1 tt (plain (λ _. R)), tt)))
+  all-go = (goes-none-slice 𝓤 H A W 2 (0 ∷ []) tt (plain (λ _. u8)) yes, (goes-none 𝓤 H A W 2 (λ _. S.the-row) yes (λ κs x f. refl), (goes-ref 𝓤 H A W 2 1 tt (plain (λ _. R)), tt)))
 
   refer-all-meets : Meets 𝓤 H A own.signature (WpFn 𝓤 H (𝓣 .C) (𝓣 .Λ) code.function) (own.spec 𝓤 H A at-mem run)
   refer-all-meets = walk-meets 𝓤 H A own.ended stayed W all-go (own.clauses 𝓤 H A at-mem run) (WpFn 𝓤 H (𝓣 .C) (𝓣 .Λ) code.function) (WpFn-mono 𝓤 H (W .laws) 𝓣 code.function) refer-all-walks

@@ -1,8 +1,9 @@
 -- `states::states` meets its contract: each way out is that of the first check that fails, or of none. Assumes nothing.
-use mathlib.Core.Path.{sym, ap, _∙_}
+use mathlib.Core.Path.{refl, sym, ap, _∙_}
+use Prim.Native.Nat.{ℕ}
 use native.Mathlib.Omega.{arith}
 use Rattle.project.specs.Bodies.{accepted}
-use Rattle.project.proofs.Accepted.{accepted-passed}
+use Rattle.project.proofs.Accepted.{accepted-passed, file-holds}
 use Rattle.states.proofs.Fillings.{wrong-length, unread, no-task}
 use borrow.Author.Needs.{needs}
 use Rattle.states.proofs.states.states.Statement.{statement}
@@ -33,7 +34,7 @@ fill-task-requires c κs =
     let start = c .before .before .before .before .before .before .before .before .before in
     let e = sym (c .before .before .before .before .before .read .ensures) ∙ c .before .before .before .n .given .1 in
     let is = accepted-passed (start .args .file .now) _ _ e in
-    (ap accepted e, is .1, omega (arith, is .2), c .before .before .before .before .before .before .if1 .left)
+    (ap accepted e, ap (λ (n : ℕ). record { blocks = n }) (is .1), file-holds 16 (omega arith) (start .args .file .now) (is .0) (is .1), record { chunks = refl; narrow = omega arith }, omega (arith, is .2), c .before .before .before .before .before .before .if1 .left)
 
 same-length : tie.Need-same-length
 same-length c = search needs

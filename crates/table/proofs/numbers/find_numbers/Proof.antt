@@ -3,6 +3,7 @@ use mathlib.Core.Path.{_≡_, sym, ap, _∙_}
 use Prim.Native.Nat.{ℕ, _-_, _≤_}
 use native.Mathlib.Omega.{arith}
 use lib.ListN.{length, length-replicate}
+use Rattle.cache.specs.Shape.{shaped}
 use Rattle.model.specs.Tasks.{task}
 use Rattle.project.specs.declared.answers.Check.the-variants.{Passed}
 use Rattle.project.specs.declared.answers.Check.the-variants.{Refused as Failed}
@@ -11,39 +12,42 @@ use Rattle.project.specs.Tasks.{tasksOf}
 use borrow.Author.Needs.{needs}
 use Rattle.reader.proofs.TaskBodies.{TaskBody, body-kept, body-task}
 use Rattle.reader.proofs.TaskBodies.{task-body as of-task}
+use Rattle.rows.specs.Rows.{areaLength}
 use Rattle.table.specs.Found.{NumbersFound}
-use Rattle.table.proofs.TableLaws.{SoFar, at-first, found-as, row-zeros, stops, grown-long, turn, ends, whole}
+use Rattle.table.proofs.TableLaws.{file-pairs, SoFar, at-first, found-as, row-zeros, stops, grown-long, turn, ends, whole}
 use Rattle.table.proofs.numbers.find_numbers.Statement.{statement}
 use Rattle.table.proofs.numbers.find_numbers.Tie as tie
 
 abbrev Inv-loop : tie.InvT-loop
-Inv-loop file n tasks area₀ sets counts numbers₀ i₀ area numbers i = (i ≤ tasks) × (length area ≡ 24832) × SoFar file n i numbers
+Inv-loop file shape w tasks area₀ sets counts numbers₀ i₀ area numbers i = (i ≤ tasks) × (length area ≡ areaLength w) × SoFar file (shaped w shape) i numbers
 
 abbrev μ-loop : tie.MeasureT-loop
-μ-loop file n tasks area₀ sets counts numbers₀ i₀ area numbers i = tasks - i
+μ-loop file shape w tasks area₀ sets counts numbers₀ i₀ area numbers i = tasks - i
 
 no-table : {a : ℕ} → Failed 11 a ≡ Passed → ⊥
 no-table e = let z : _≡_ {A = ℕ} 0 1 = cc in omega arith
 
 -- the task numbered i is one of the file
 the-task : (c : tie.In-loop Inv-loop μ-loop) → TaskBody (c .before .before .before .before .before .before .before .args .file .now) (c .before .loop .i)
-the-task c = of-task (c .before .before .before .before .before .before .before .args .file .now) (c .before .before .before .before .before .before .before .pre .0) (c .before .loop .i) (omega (arith, c .before .before .before .before .before .before .before .pre .2, c .before .loop .inv .0))
+the-task c =
+    let start = c .before .before .before .before .before .before .before in
+    of-task (start .args .file .now) (start .pre .0) (c .before .loop .i) (omega (arith, start .pre .4, c .before .loop .inv .0))
 
 -- what was found of it
-found : (c : tie.After-task-numbers Inv-loop μ-loop)
-    → NumbersFound (c .before .before .before .before .before .before .before .before .before .before .before .args .n) (tasksOf (c .before .before .before .before .before .before .before .before .before .before .before .args .file .now)) (taskCount (c .before .before .before .before .before .before .before .before .before .before .before .args .file .now)) (task (tasksOf (c .before .before .before .before .before .before .before .before .before .before .before .args .file .now)) (c .before .before .before .before .before .loop .i))
-    (c .task-numbers .last .1 .1 .1 .1 .1 .1 .0) (c .task-numbers .result)
+found : (c : tie.After-task-numbers Inv-loop μ-loop) → let start = c .before .before .before .before .before .before .before .before .before .before .before in
+    NumbersFound (shaped (start .args .w) (start .args .shape)) (tasksOf (start .args .file .now)) (taskCount (start .args .file .now)) (task (tasksOf (start .args .file .now)) (c .before .before .before .before .before .loop .i))
+    (c .task-numbers .last .1 .1 .1 .1 .1 .1 .1 .0) (c .task-numbers .result)
 found c =
     let start = c .before .before .before .before .before .before .before .before .before .before .before in
     let at = c .before .before .before .before .before .loop in
     let placed = c .before .before .before .task-body .ensures .0 in
-    found-as (start .pre .2) (body-task (start .args .file .now) (at .i) (the-task (c .before .before .before .before)) placed)
-    (c .task-numbers .ensures .1 (tasksOf (start .args .file .now)) (start .pre .4))
+    found-as (start .pre .4) (body-task (start .args .file .now) (at .i) (the-task (c .before .before .before .before)) placed)
+    (c .task-numbers .ensures .1 (tasksOf (start .args .file .now)) (start .pre .6))
 
 loop-holds : tie.Need-loop-holds Inv-loop μ-loop
 loop-holds c =
     let start = c .before .before .before .before .before in
-    (omega arith, start .pre .3, at-first (start .args .file .now) (start .args .n) (start .pre .5))
+    (omega arith, start .pre .5, at-first (start .args .file .now) (shaped (start .args .w) (start .args .shape)) (start .pre .7))
 
 task-body-requires : tie.Need-task-body-requires Inv-loop μ-loop
 task-body-requires c κs = search needs
@@ -74,13 +78,14 @@ task-numbers-requires c κs =
     let start = c .before .before .before .before .before .before .before .before .before .before in
     let at = c .before .before .before .before .loop in
     let placed = c .before .before .task-body .ensures .0 in
-    let t = the-task (c .before .before .before) in (
-      body-kept (start .args .file .now) (at .i) t placed,
-      omega (arith, start .pre .1, t .low),
-      omega (arith, start .pre .1, t .high),
+    let t = the-task (c .before .before .before) in
+    let file = start .args .file .now in (
+      body-kept file (at .i) t placed,
+      start .pre .2,
+      start .pre .3,
       at .inv .1,
-      start .pre .4 .room,
-      row-zeros (start .args .file .now) (start .args .n) (at .i) (start .pre .1) (t .inFile .below) (t .inFile .few) (at .numbers) (at .inv .2),
+      start .pre .6 .room,
+      row-zeros file (shaped (start .args .w) (start .args .shape)) (at .i) (file-pairs (start .args .w) file (start .pre .1) (start .pre .2)) (t .inFile .below) (t .inFile .few) (at .numbers) (at .inv .2),
     )
 
 task-byte-requires : tie.Need-task-byte-requires Inv-loop μ-loop
@@ -94,15 +99,21 @@ same-length-2 c =
     let start = c .before .before .before .before .before .before .before .before .before .before .before .before .before .before .before .before .before in
     let at = c .before .before .before .before .before .before .before .before .before .before .before .loop in
     let t = the-task (c .before .before .before .before .before .before .before .before .before .before) in
-    grown-long (start .args .file .now) (start .args .n) (at .i) (start .pre .1) (t .inFile .below) (t .inFile .few) (at .numbers) (at .inv .2) (c .before .before .before .before .before .before .task-numbers .last .1 .1 .1 .1 .1 .1 .0) (found (c .before .before .before .before .before .before) .long)
-    ∙ sym (ap length (start .pre .5) ∙ length-replicate {A = ℕ} 64 0)
+    let file = start .args .file .now in
+    let k = shaped (start .args .w) (start .args .shape) in
+    let same = file-pairs (start .args .w) file (start .pre .1) (start .pre .2) in
+    grown-long file k (at .i) same (t .inFile .below) (t .inFile .few) (at .numbers) (at .inv .2) (c .before .before .before .before .before .before .task-numbers .last .1 .1 .1 .1 .1 .1 .1 .0) (found (c .before .before .before .before .before .before) .long)
+    ∙ sym (ap length (start .pre .7) ∙ length-replicate {A = ℕ} 64 0)
 
 returns : tie.Need-returns Inv-loop μ-loop
 returns c =
     let start = c .before .before .before .before .before .before .before .before .before .before .before .before .before .before .before .before .before in
     let at = c .before .before .before .before .before .before .before .before .before .before .before .loop in
     let t = the-task (c .before .before .before .before .before .before .before .before .before .before) in
-    let e = stops (start .args .file .now) (start .args .n) (at .i) (start .pre .1) (t .inFile .below) (t .inFile .few) (at .numbers) (at .inv .2) (found (c .before .before .before .before .before .before) .answer) (c .before .if1 .taken) (c .task-byte .ensures) in
+    let file = start .args .file .now in
+    let k = shaped (start .args .w) (start .args .shape) in
+    let same = file-pairs (start .args .w) file (start .pre .1) (start .pre .2) in
+    let e = stops file k (at .i) same (t .inFile .below) (t .inFile .few) (at .numbers) (at .inv .2) (found (c .before .before .before .before .before .before) .answer) (c .before .if1 .taken) (c .task-byte .ensures) in
     (c .before .before .before .before .before .before .task-numbers .ensures .0, e, λ q. absurd (no-table q))
 
 mul-numbers : tie.Need-mul-numbers Inv-loop μ-loop
@@ -116,7 +127,10 @@ slice-write-numbers c =
     let start = c .before .before .before .before .before .before .before .before .before .before .before .before .before .before .before .before in
     let at = c .before .before .before .before .before .before .before .before .before .before .loop in
     let t = the-task (c .before .before .before .before .before .before .before .before .before) in
-    let z = grown-long (start .args .file .now) (start .args .n) (at .i) (start .pre .1) (t .inFile .below) (t .inFile .few) (at .numbers) (at .inv .2) (c .before .before .before .before .before .task-numbers .last .1 .1 .1 .1 .1 .1 .0) (found (c .before .before .before .before .before) .long) in
+    let file = start .args .file .now in
+    let k = shaped (start .args .w) (start .args .shape) in
+    let same = file-pairs (start .args .w) file (start .pre .1) (start .pre .2) in
+    let z = grown-long file k (at .i) same (t .inFile .below) (t .inFile .few) (at .numbers) (at .inv .2) (c .before .before .before .before .before .task-numbers .last .1 .1 .1 .1 .1 .1 .1 .0) (found (c .before .before .before .before .before) .long) in
     omega (arith, z, t .inFile .below, t .inFile .few)
 
 add-i : tie.Need-add-i Inv-loop μ-loop
@@ -129,10 +143,13 @@ loop-again : tie.Need-loop-again Inv-loop μ-loop
 loop-again c =
     let start = c .before .before .before .before .before .before .before .before .before .before .before .before .before .before .before .before in
     let at = c .before .before .before .before .before .before .before .before .before .before .loop in
-    let t = the-task (c .before .before .before .before .before .before .before .before .before) in (
+    let t = the-task (c .before .before .before .before .before .before .before .before .before) in
+    let file = start .args .file .now in
+    let k = shaped (start .args .w) (start .args .shape) in
+    let same = file-pairs (start .args .w) file (start .pre .1) (start .pre .2) in (
       omega arith,
       c .before .before .before .before .before .task-numbers .ensures .0,
-      turn (start .args .file .now) (start .args .n) (at .i) (start .pre .1) (t .inFile .below) (t .inFile .few) (at .numbers) (at .inv .2) (c .before .before .before .before .before .task-numbers .last .1 .1 .1 .1 .1 .1 .0) (found (c .before .before .before .before .before)) (c .if1 .left),
+      turn file k (at .i) same (t .inFile .below) (t .inFile .few) (at .numbers) (at .inv .2) (c .before .before .before .before .before .task-numbers .last .1 .1 .1 .1 .1 .1 .1 .0) (found (c .before .before .before .before .before)) (c .if1 .left),
     )
 
 same-length-3 : tie.Need-same-length-3 Inv-loop μ-loop
@@ -146,10 +163,11 @@ returns-2 c =
     let start = c .before .before .before .before .before .before .before in
     let at = c .before .loop in
     let file = start .args .file .now in
-    let e : at .i ≡ taskCount file = omega (arith, start .pre .2) in
-    let few : taskCount file ≤ 8 = omega (arith, start .pre .2, start .pre .4 .room .inside) in
+    let k = shaped (start .args .w) (start .args .shape) in
+    let e : at .i ≡ taskCount file = omega (arith, start .pre .4) in
+    let few : taskCount file ≤ 8 = omega (arith, start .pre .4, start .pre .6 .room .inside) in
     let h = rw e at (at .inv .2) in
-    (at .inv .1, ends file (start .args .n) few (at .numbers) h, λ q. whole file (start .args .n) few (at .numbers) h)
+    (at .inv .1, ends file k few (at .numbers) h, λ q. whole file k few (at .numbers) h)
 
 pub find-numbers-spec : {M : Type 1} → statement M
 find-numbers-spec =

@@ -1,9 +1,12 @@
 -- `numbers::task_numbers` meets its contract: what was gathered are the states of the task, and their useful sets meet the used sets of each task. Assumes nothing.
 use mathlib.Core.Path.{ap, _∙_}
 use Prim.Native.Nat.{ℕ}
+use native.Mathlib.Omega.{arith}
 use lib.ListN.{length, length-replicate}
+use Rattle.cache.specs.Shape.{shaped}
 use Rattle.body.specs.Decode.{decode, taskOf}
-use Rattle.table.proofs.NumberLaws.{numbers-full, numbers-few, reaching-memory, live-memory}
+use Rattle.rows.specs.Rows.{kindLength}
+use Rattle.table.proofs.NumberLaws.{lent-first, lent-second, numbers-full, numbers-few, reaching-memory, live-memory}
 use borrow.Author.Needs.{needs}
 use Rattle.table.proofs.numbers.task_numbers.Statement.{statement}
 use Rattle.table.proofs.numbers.task_numbers.Tie as tie
@@ -24,7 +27,13 @@ returns : tie.Need-returns
 returns c =
     let start = c .before .before .before .before .before .before .before .before .before .before .before .before .before .before in
     let gathered = c .before .before .before .before .before .task-rows .ensures in
-    (gathered .long, λ ts used. numbers-full (start .args .n) (taskOf (decode (start .args .body .now))) gathered ts (start .args .tasks) (c .if1 .taken) (start .pre .5))
+    (gathered .long, λ ts used. numbers-full (shaped (start .args .w) (start .args .shape)) (taskOf (decode (start .args .body .now))) gathered ts (start .args .tasks) (c .if1 .taken) (start .pre .5))
+
+mul-kind : tie.Need-mul-kind
+mul-kind c = omega (arith, c .before .before .before .before .before .before .before .before .before .before .before .before .before .before .pre .2 .narrow)
+
+mul-kind-2 : tie.Need-mul-kind-2
+mul-kind-2 c = omega (arith, c .before .before .before .before .before .before .before .before .before .before .before .before .before .before .pre .2 .narrow)
 
 block-count-requires : tie.Need-block-count-requires
 block-count-requires c κs = search needs
@@ -36,10 +45,16 @@ part-meet-task-start : tie.Need-part-meet-task-start
 part-meet-task-start c = search needs
 
 part-meet-task-end : tie.Need-part-meet-task-end
-part-meet-task-end c = search needs
+part-meet-task-end c = omega (arith, c .before .before .before .before .before .before .before .task-rows .ensures .long)
 
 slice-aggregate-meet-task : tie.Need-slice-aggregate-meet-task
 slice-aggregate-meet-task c = search needs
+
+add-meet-task : tie.Need-add-meet-task
+add-meet-task c = omega (arith, c .before .before .before .before .before .before .before .before .before .before .before .before .before .before .before .before .before .before .pre .2 .narrow)
+
+mul-meet-task : tie.Need-mul-meet-task
+mul-meet-task c = omega (arith, c .before .before .before .before .before .before .before .before .before .before .before .before .before .before .before .before .before .before .pre .2 .narrow)
 
 sub-meet-task-2 : tie.Need-sub-meet-task-2
 sub-meet-task-2 c = search needs
@@ -48,7 +63,7 @@ part-meet-task-start-2 : tie.Need-part-meet-task-start-2
 part-meet-task-start-2 c = search needs
 
 part-meet-task-end-2 : tie.Need-part-meet-task-end-2
-part-meet-task-end-2 c = search needs
+part-meet-task-end-2 c = omega (arith, c .before .before .before .before .before .before .before .before .before .task-rows .ensures .long)
 
 slice-aggregate-meet-task-2 : tie.Need-slice-aggregate-meet-task-2
 slice-aggregate-meet-task-2 c = search needs
@@ -56,12 +71,16 @@ slice-aggregate-meet-task-2 c = search needs
 meet-task-requires : tie.Need-meet-task-requires
 meet-task-requires c κs =
     let start = c .before .before .before .before .before .before .before .before .before .before .before .before .before .before .before .before .before .before .before .before .before in
-    let gathered = c .before .before .before .before .before .before .before .before .before .before .before .before .task-rows .ensures in
+    let rows = c .before .before .before .before .before .before .before .before .before .before .before .before .task-rows in
     let few = c .before .before .before .before .before .before .before .if1 .left in
-    let t = taskOf (decode (start .args .body .now)) in (
+    let k = shaped (start .args .w) (start .args .shape) in
+    let t = taskOf (decode (start .args .body .now)) in
+    let kind = kindLength (start .args .w) in
+    let first = lent-first kind (rows .last .1 .1 .1 .0) in
+    let second = lent-second kind (rows .last .1 .1 .1 .0) in (
       c .before .before .before .before .before .before .block-count .ensures .2,
-      reaching-memory (start .args .n) t gathered few,
-      live-memory (start .args .n) t gathered few,
+      reaching-memory k t (rows .ensures) few first second (start .pre .2),
+      live-memory k t (rows .ensures) few first second (start .pre .2),
       start .pre .4,
       ap length (start .pre .5) ∙ length-replicate {A = ℕ} 8 0,
     )
@@ -75,12 +94,15 @@ same-length-3 c = search needs
 returns-2 : tie.Need-returns-2
 returns-2 c =
     let start = c .before .before .before .before .before .before .before .before .before .before .before .before .before .before .before .before .before .before .before .before .before .before .before .before in
-    let gathered = c .before .before .before .before .before .before .before .before .before .before .before .before .before .before .before .task-rows .ensures in
+    let rows = c .before .before .before .before .before .before .before .before .before .before .before .before .before .before .before .task-rows in
     let few = c .before .before .before .before .before .before .before .before .before .before .if1 .left in
     let blocks = c .before .before .before .before .before .before .before .before .before .block-count in
-    let t = taskOf (decode (start .args .body .now)) in (
-      gathered .long,
-      λ ts used. numbers-few (start .args .n) t gathered few ts (start .args .tasks) (blocks .result) (start .pre .1) (start .pre .2) (blocks .ensures .0) (blocks .ensures .2) (start .pre .5)
+    let k = shaped (start .args .w) (start .args .shape) in
+    let t = taskOf (decode (start .args .body .now)) in
+    let kind = kindLength (start .args .w) in
+    let area = rows .last .1 .1 .1 .0 in (
+      rows .ensures .long,
+      λ ts used. numbers-few k t (rows .ensures) few (lent-first kind area) (lent-second kind area) ts (start .args .tasks) (blocks .result) (blocks .ensures .0) (blocks .ensures .2) (start .pre .5)
           used (c .before .before .meet-task .ensures),
     )
 
@@ -93,11 +115,15 @@ task-numbers-spec =
     task-rows-requires
     same-length
     returns
+    mul-kind
+    mul-kind-2
     block-count-requires
     sub-meet-task
     part-meet-task-start
     part-meet-task-end
     slice-aggregate-meet-task
+    add-meet-task
+    mul-meet-task
     sub-meet-task-2
     part-meet-task-start-2
     part-meet-task-end-2

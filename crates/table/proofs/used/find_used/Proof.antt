@@ -1,35 +1,46 @@
 -- `used::find_used` meets its contract. The loop's invariant: the used sets of the tasks below j are found, and none of any other. Assumes nothing.
-use mathlib.Core.Path.{_≡_}
-use mathlib.Core.List.{List}
+use mathlib.Core.Path.{_≡_, refl}
 use Prim.Native.Nat.{ℕ, _+_, _*_, _-_, _≤_, _<_}
 use native.Mathlib.Omega.{arith}
-use lib.ListN.{length, drop, length-drop}
-use lib.Seq.{length-take-le}
+use lib.ListN.{length}
 use borrow.Author.Needs.{needs}
+use Rattle.cache.specs.Shape.{shaped}
 use Rattle.model.specs.Tasks.{task}
 use Rattle.project.specs.Tasks.{tasksOf}
 use Rattle.reader.proofs.TaskBodies.{TaskBody, body-kept, body-task}
 use Rattle.reader.proofs.TaskBodies.{task-body as of-task}
-use Rattle.graphs.proofs.Gathered.{half-long}
+use Rattle.rows.specs.Rows.{kindLength, areaLength}
+use Rattle.graphs.proofs.Gathered.{first-wide, half-long}
+use Rattle.pairs.proofs.UsedSets.{lent-long}
 use Rattle.table.specs.Found.{TaskUsed, UsedFound, NoOthers}
 use Rattle.table.proofs.UsedLaws.{used-none, used-turn, others-none, others-turn}
 use Rattle.table.proofs.used.find_used.Statement.{statement}
 use Rattle.table.proofs.used.find_used.Tie as tie
 
 abbrev Inv-loop : tie.InvT-loop
-Inv-loop file n tasks area₀ sets₀ counts₀ j₀ area sets counts j = (j ≤ tasks) × (length area ≡ 24832) × UsedFound n (tasksOf file) j sets counts × NoOthers n (tasksOf file) j counts
+Inv-loop file shape w tasks area₀ sets₀ counts₀ kind j₀ area sets counts j =
+    (j ≤ tasks) × (length area ≡ areaLength w) × UsedFound (shaped w shape) (tasksOf file) j sets counts × NoOthers (shaped w shape) (tasksOf file) j counts
 
 abbrev μ-loop : tie.MeasureT-loop
-μ-loop file n tasks area₀ sets₀ counts₀ j₀ area sets counts j = tasks - j
+μ-loop file shape w tasks area₀ sets₀ counts₀ kind j₀ area sets counts j = tasks - j
 
 -- the task numbered j is one of the file
 the-task : (c : tie.In-loop Inv-loop μ-loop) → TaskBody (c .before .before .before .before .before .before .args .file .now) (c .before .loop .j)
-the-task c = of-task (c .before .before .before .before .before .before .args .file .now) (c .before .before .before .before .before .before .pre .0) (c .before .loop .j) (omega (arith, c .before .before .before .before .before .before .pre .2, c .before .loop .inv .0))
+the-task c =
+    let start = c .before .before .before .before .before .before in
+    of-task (start .args .file .now) (start .pre .0) (c .before .loop .j) (omega (arith, start .pre .4, c .before .loop .inv .0))
+
+mul-kind : tie.Need-mul-kind Inv-loop μ-loop
+mul-kind c = omega (arith, c .before .before .before .before .pre .3 .narrow)
+
+mul-kind-2 : tie.Need-mul-kind-2 Inv-loop μ-loop
+mul-kind-2 c = omega (arith, c .before .before .before .before .pre .3 .narrow)
 
 loop-holds : tie.Need-loop-holds Inv-loop μ-loop
 loop-holds c =
     let start = c .before .before .before .before in
-    (omega arith, start .pre .3, used-none (start .args .n) (tasksOf (start .args .file .now)) (start .pre .4) (start .pre .5), others-none (start .args .n) (tasksOf (start .args .file .now)) (start .pre .5))
+    let k = shaped (start .args .w) (start .args .shape) in
+    (omega arith, start .pre .5, used-none k (tasksOf (start .args .file .now)) (start .pre .6) (start .pre .7), others-none k (tasksOf (start .args .file .now)) (start .pre .7))
 
 task-body-requires : tie.Need-task-body-requires Inv-loop μ-loop
 task-body-requires c κs = search needs
@@ -41,7 +52,7 @@ part-task-used-start : tie.Need-part-task-used-start Inv-loop μ-loop
 part-task-used-start c = search needs
 
 part-task-used-end : tie.Need-part-task-used-end Inv-loop μ-loop
-part-task-used-end c = search needs
+part-task-used-end c = omega (arith, c .before .before .loop .inv .1)
 
 mul-task-used : tie.Need-mul-task-used Inv-loop μ-loop
 mul-task-used c = search needs
@@ -72,15 +83,12 @@ task-used-requires c κs =
     let start = c .before .before .before .before .before .before .before .before .before in
     let at = c .before .before .before .before .loop in
     let placed = c .before .before .task-body .ensures .0 in
-    let t = the-task (c .before .before .before) in
-    let below = t .inFile .below in
-    let few = t .inFile .few in
-    let size : 32 * at .j + 32 - 32 * at .j ≡ 32 = omega arith in (
+    let t = the-task (c .before .before .before) in (
       body-kept (start .args .file .now) (at .j) t placed,
-      omega (arith, start .pre .1, t .low),
-      omega (arith, start .pre .1, t .high),
-      length-take-le 12288 (at .area) (omega (arith, at .inv .1)),
-      rw size (length-take-le 32 (drop (32 * at .j) (at .sets)) (rw length-drop (omega (arith, at .inv .2 .room .long)))),
+      start .pre .2,
+      start .pre .3,
+      first-wide (24 * (32 * start .args .w)) (at .area) (omega (arith, at .inv .1)),
+      lent-long 32 (at .j) 8 (at .sets) (omega (arith, t .inFile .below, t .inFile .few)) (at .inv .2 .room .long),
     )
 
 mul-counts : tie.Need-mul-counts Inv-loop μ-loop
@@ -105,13 +113,15 @@ loop-again c =
     let placed = c .before .before .before .before .before .before .before .task-body .ensures .0 in
     let found = c .before .before .before .before .task-used in
     let t = the-task (c .before .before .before .before .before .before .before .before) in
-    let new : TaskUsed (start .args .n) (task (tasksOf (start .args .file .now)) (at .j)) (found .last .1 .1 .0) (found .last .1 .1 .1 .0) (found .result) =
-    rw (← body-task (start .args .file .now) (at .j) t placed) (found .ensures) in
+    let k = shaped (start .args .w) (start .args .shape) in
+    let rows = found .last .1 .1 .1 .0 in
+    let part = found .last .1 .1 .1 .1 .0 in
+    let new : TaskUsed k (task (tasksOf (start .args .file .now)) (at .j)) rows part (found .result) = rw (← body-task (start .args .file .now) (at .j) t placed) (found .ensures) in
     let inside : at .j < 8 = omega (arith, t .inFile .below, t .inFile .few) in (
       omega arith,
-      half-long (at .area) (found .last .1 .1 .0) (at .inv .1) (new .rowsLong),
-      used-turn (start .args .n) (tasksOf (start .args .file .now)) (at .j) (at .sets) (at .counts) (found .last .1 .1 .1 .0) (found .result) inside (at .inv .2) new,
-      others-turn (start .args .n) (tasksOf (start .args .file .now)) (at .j) (at .sets) (at .counts) (found .last .1 .1 .1 .0) (found .result) inside (at .inv .2) new (at .inv .3),
+      half-long (kindLength (start .args .w)) (at .area) rows (at .inv .1) (new .rowsLong),
+      used-turn k (tasksOf (start .args .file .now)) (at .j) (at .sets) (at .counts) part (found .result) inside (at .inv .2) new,
+      others-turn k (tasksOf (start .args .file .now)) (at .j) (at .sets) (at .counts) part (found .result) inside (at .inv .2) new (at .inv .3),
     )
 
 same-length : tie.Need-same-length Inv-loop μ-loop
@@ -135,6 +145,8 @@ find-used-spec =
     (tie.spec
     Inv-loop
     μ-loop
+    mul-kind
+    mul-kind-2
     loop-holds
     task-body-requires
     sub-task-used

@@ -1,7 +1,7 @@
 -- `numeral::put_bytes` meets its contract: the bytes are copied to the front of the part from `at` on. Assumes nothing.
 use mathlib.Core.Path.{refl}
 use borrow.Author.Needs.{needs}
-use Rattle.text.proofs.PutLaws.{copied}
+use Rattle.cache.proofs.Copies.{copied}
 use Rattle.text.proofs.numeral.put_bytes.Statement.{statement}
 use Rattle.text.proofs.numeral.put_bytes.Tie as tie
 

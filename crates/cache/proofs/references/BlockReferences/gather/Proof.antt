@@ -7,20 +7,21 @@ use lib.ListN.{length, take}
 use lib.Seq.{take-all}
 use borrow.Author.Needs.{needs}
 use Rattle.cache.specs.References.{nothing, numbers}
-use Rattle.cache.specs.Cache.{wide, emptyRow, withReferences, firstReferences}
-use Rattle.cache.proofs.Numbers.{length-numbers}
+use Rattle.cache.specs.Cache.{emptyRow, withReferences, firstReferences}
+use Rattle.cache.specs.Shape.{shaped}
+use Rattle.cache.proofs.NumberLaws.{length-numbers}
 use Rattle.cache.proofs.Firsts.{first-turn, last-turn}
 use Rattle.cache.proofs.references.BlockReferences.gather.Statement.{statement}
 use Rattle.cache.proofs.references.BlockReferences.gather.Tie as tie
 
 abbrev Inv-loop : tie.InvT-loop
-Inv-loop references n rows₀ i₀ i-end rows i =
+Inv-loop references shape rows₀ i₀ i-end rows i =
     (i ≤ length references / 2)
-    × (rows .first .cells ≡ firstReferences (wide 16 n) (take i (numbers references)))
-    × (rows .last .cells ≡ withReferences (wide 16 n) (emptyRow (wide 16 n)) (take i (numbers references)))
+    × (rows .first .cells ≡ firstReferences (shaped 32 shape) (take i (numbers references)))
+    × (rows .last .cells ≡ withReferences (shaped 32 shape) (emptyRow (shaped 32 shape)) (take i (numbers references)))
 
 abbrev μ-loop : tie.MeasureT-loop
-μ-loop references n rows₀ i₀ i-end rows i = length references / 2 - i
+μ-loop references shape rows₀ i₀ i-end rows i = length references / 2 - i
 
 loop-holds : tie.Need-loop-holds Inv-loop μ-loop
 unfolding nothing
@@ -48,11 +49,11 @@ loop-again : tie.Need-loop-again Inv-loop μ-loop
 loop-again c =
     let at = c .before .before .before .before .loop in
     let start = c .before .before .before .before .before .before in
-    let k = wide 16 (start .args .n) in
+    let k = shaped 32 (start .args .shape) in
     let s = start .args .references .now in
     let m = c .before .new .ensures ∙ c .before .before .number-at .ensures in (
       omega arith,
-      first-turn k s (at .i) (omega arith) (start .pre .2) m (at .inv .1) (c .with-reference .ensures .0),
+      first-turn k s (at .i) (omega arith) (start .pre .1) m (at .inv .1) (c .with-reference .ensures .0),
       last-turn k s (at .i) (omega arith) m (at .inv .2) (c .with-reference .ensures .1),
     )
 
@@ -60,7 +61,7 @@ returns : tie.Need-returns Inv-loop μ-loop
 returns c =
     let at = c .before .loop in
     let args = c .before .before .before .args in
-    let k = wide 16 (args .n) in
+    let k = shaped 32 (args .shape) in
     let s = args .references .now in
     let all = take-all (at .i) (numbers s) (rw length-numbers (omega arith)) in
     (at .inv .1 ∙ ap (firstReferences k) all, at .inv .2 ∙ ap (withReferences k (emptyRow k)) all)

@@ -22,14 +22,14 @@ mul-result c = search needs
 element-copy-out-result : tie.Need-element-copy-out-result
 element-copy-out-result c =
     let start = c .before .before in
-    omega (arith, mod-lt (start .args .m .0) (start .pre .0))
+    omega (arith, mod-lt (start .args .m .0) (start .pre .some))
 
 returns : tie.Need-returns
 returns c =
     let start = c .before .before .before in
     let row = start .args .t1 .cells in
-    let sixteen : length row ≡ 16 = search needs in
-    let inside : c .before .index .result < length row = omega (arith, mod-lt (start .args .m .0) (start .pre .0)) in
+    let long : length row ≡ 32 = search needs in
+    let inside : c .before .index .result < length row = omega (arith, mod-lt (start .args .m .0) (start .pre .some)) in
     cell-held row (c .before .index .result) inside
     ∙ ap (held row) (c .before .index .ensures ∙ c .before .before .cache-block .ensures)
 

@@ -22,7 +22,7 @@ mul-next c = search needs
 element-write-next : tie.Need-element-write-next
 element-write-next c =
     let start = c .before .before .before in
-    omega (arith, mod-lt (start .args .m .0) (start .pre .0))
+    omega (arith, mod-lt (start .args .m .0) (start .pre .some))
 
 returns : tie.Need-returns
 returns c =
