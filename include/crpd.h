@@ -15,8 +15,8 @@
  *
  * Threads. The calls keep nothing between them, take nothing from the heap and call nothing outside the archive but
  * memcpy and memset, so they may run in several threads at once, on lists that no other thread writes meanwhile.
- * Measured on small and large files alike, crpd_table takes about 21 KiB of stack, crpd_write about 13 KiB and each
- * other call about 10 KiB at most; no proof bounds it.
+ * Measured on small and large files alike, crpd_table takes about 18 KiB of stack and each other call about 10 KiB at
+ * most; no proof bounds it.
  */
 #ifndef CRPD_H
 #define CRPD_H
