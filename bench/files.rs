@@ -4,16 +4,21 @@ use crate::plain;
 /// A block: its successors and its references.
 pub type Block = (Vec<u8>, Vec<u16>);
 
-pub fn body(blocks: &[Block]) -> Vec<u8> {
+/// The body of some blocks, with those masked that `masked` tells.
+fn masked_body(blocks: &[Block], masked: impl Fn(usize) -> bool) -> Vec<u8> {
     let mut bytes = vec![blocks.len() as u8, 0];
-    for (successors, references) in blocks {
-        bytes.extend([0, successors.len() as u8, references.len() as u8]);
+    for (b, (successors, references)) in blocks.iter().enumerate() {
+        bytes.extend([u8::from(masked(b)), successors.len() as u8, references.len() as u8]);
         bytes.extend(successors);
         for m in references {
             bytes.extend(m.to_le_bytes());
         }
     }
     bytes
+}
+
+pub fn body(blocks: &[Block]) -> Vec<u8> {
+    masked_body(blocks, |_| false)
 }
 
 pub fn file(n: u8, bodies: &[Vec<u8>]) -> Vec<u8> {
@@ -66,6 +71,13 @@ pub fn tiny() -> Vec<u8> {
 /// Four tasks of about a dozen blocks with two or three forks.
 pub fn typical() -> Vec<u8> {
     let bodies: Vec<Vec<u8>> = (0..4).map(|j| body(&forks(8, j, 2 + j % 2, 2))).collect();
+    file(8, &bodies)
+}
+
+/// The typical file with every third block masked, and all blocks of the last task.
+pub fn masked() -> Vec<u8> {
+    let bodies: Vec<Vec<u8>> =
+        (0..4).map(|j| masked_body(&forks(8, j, 2 + j % 2, 2), |b| j == 3 || b % 3 == 2)).collect();
     file(8, &bodies)
 }
 
@@ -134,6 +146,12 @@ pub fn varied() -> Vec<u8> {
 /// Eight tasks of 24 blocks, 16 cache blocks, 32 states a block in the loop.
 pub fn largest() -> Vec<u8> {
     let bodies: Vec<Vec<u8>> = (0..8).map(|j| body(&forks(16, j, 5, 6))).collect();
+    file(16, &bodies)
+}
+
+/// The same with the end block of task 0 masked.
+fn largest_masked() -> Vec<u8> {
+    let bodies: Vec<Vec<u8>> = (0..8).map(|j| masked_body(&forks(16, j, 5, 6), |b| j == 0 && b == 23)).collect();
     file(16, &bodies)
 }
 
@@ -230,15 +248,19 @@ pub fn largest_sheet() -> Vec<u16> {
     full_sheet(8, |_| path(5, 6))
 }
 
-/// For the largest file: a sheet with a number too many, which fails check 12, and one whose last path doesn't end in the end block,
-/// which fails check 13.
-pub fn refused_sheets() -> Vec<Vec<u16>> {
+/// Files of the largest kind with a sheet each: one with a number too many, which fails check 12, one whose last path doesn't end in the
+/// end block, which fails check 13, and one whose last preemption comes after a masked end block, which fails check 16.
+pub fn refused_sheets() -> Vec<(Vec<u8>, Vec<u16>)> {
     let mut long = largest_sheet();
     long.push(0);
     let mut broken = largest_sheet();
     let last = broken.len() - 1;
     broken[last] = 1;
-    vec![long, broken]
+    let mut late = largest_sheet();
+    let length = path(5, 6).len();
+    let last_point = late.len() - length - 3;
+    late[last_point] = length as u16 - 1;
+    vec![(largest(), long), (largest(), broken), (largest_masked(), late)]
 }
 
 /// What the writer takes: n, the joined bodies, their lengths, and the length of the out list.

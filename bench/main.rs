@@ -10,7 +10,7 @@ use std::time::Instant;
 
 /// The checks that an input of its own fails: on files, on sheets, and of the writer.
 const FILE_CHECKS: [u8; 9] = [2, 3, 4, 5, 6, 7, 8, 9, 10];
-const SHEET_CHECKS: [u8; 2] = [12, 13];
+const SHEET_CHECKS: [u8; 3] = [12, 13, 16];
 const WRITER_CHECKS: [u8; 7] = [5, 6, 7, 8, 9, 10, 14];
 
 /// The least time of a call, in nanoseconds, over several rounds of about 20 ms each.
@@ -76,6 +76,7 @@ fn file_classes() -> Vec<(String, Vec<u8>)> {
     let mut classes = vec![
         ("tiny".to_string(), files::tiny()),
         ("typical".to_string(), files::typical()),
+        ("masked".to_string(), files::masked()),
         ("largest".to_string(), files::largest()),
         ("varied".to_string(), files::varied()),
         ("refused by 11".to_string(), files::refused_states()),
@@ -126,14 +127,13 @@ type Replayed = (Vec<u8>, Vec<u16>);
 
 fn replay_classes() -> Vec<(String, Replayed)> {
     let early = files::refused_early().into_iter().map(|file| (file, files::typical_sheet()));
-    let sheets = files::refused_sheets().into_iter().map(|sheet| (files::largest(), sheet));
     let mut classes = vec![
         ("tiny".to_string(), (files::tiny(), files::tiny_sheet())),
         ("typical".to_string(), (files::typical(), files::typical_sheet())),
         ("largest".to_string(), (files::largest(), files::largest_sheet())),
     ];
     classes.extend(refused_by(&FILE_CHECKS).zip(early));
-    classes.extend(refused_by(&SHEET_CHECKS).zip(sheets));
+    classes.extend(refused_by(&SHEET_CHECKS).zip(files::refused_sheets()));
     classes
 }
 
@@ -178,8 +178,7 @@ fn refused_as_meant() {
     assert_eq!(failed, FILE_CHECKS);
     let file = files::refused_states();
     assert_eq!(plain::states(&file, files::last_task(&file), &mut [0; AREA_LENGTH]), Err((11, 7)));
-    let file = files::largest();
-    let failed: Vec<u8> = files::refused_sheets().iter().map(|s| plain::replay(&file, s).unwrap_err().0).collect();
+    let failed: Vec<u8> = files::refused_sheets().iter().map(|(f, s)| plain::replay(f, s).unwrap_err().0).collect();
     assert_eq!(failed, SHEET_CHECKS);
     let failed: Vec<u8> = files::refused_parts()
         .iter()
@@ -188,7 +187,7 @@ fn refused_as_meant() {
     assert_eq!(failed, WRITER_CHECKS);
 }
 
-/// The other inputs are accepted, and the writer gives back the files that its parts are made from.
+/// The other inputs are accepted, the writer gives back the files that its parts are made from, and masks change the table.
 fn accepted_as_meant() {
     let files = [files::tiny(), files::typical(), files::largest()];
     let sheets = [files::tiny_sheet(), files::typical_sheet(), files::largest_sheet()];
@@ -200,6 +199,12 @@ fn accepted_as_meant() {
         assert_eq!(plain::write(parts.n, &parts.bodies, &parts.lengths, &mut out), Ok(file.len()));
         assert_eq!(&out, file);
     }
+    let table = |file: &[u8]| {
+        let mut numbers = [0; TABLE_LENGTH];
+        plain::table(file, &mut [0; AREA_LENGTH], &mut numbers).unwrap();
+        numbers
+    };
+    assert_ne!(table(&files::masked()), table(&files::typical()));
 }
 
 fn main() {

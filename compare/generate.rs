@@ -37,7 +37,7 @@ pub struct Made {
 pub fn encode(task: &Task) -> Vec<u8> {
     let mut body = vec![task.len() as u8, 0];
     for block in task {
-        body.extend([0, block.successors.len() as u8, block.references.len() as u8]);
+        body.extend([u8::from(block.masked), block.successors.len() as u8, block.references.len() as u8]);
         body.extend(block.successors.iter().map(|&next| next as u8));
         body.extend(block.references.iter().flat_map(|m| m.to_le_bytes()));
     }
@@ -59,7 +59,7 @@ fn packed(n: u8, bodies: &[Vec<u8>]) -> Vec<u8> {
 }
 
 fn block(successors: &[usize], references: &[u16]) -> Block {
-    Block { successors: successors.to_vec(), references: references.to_vec() }
+    Block { masked: false, successors: successors.to_vec(), references: references.to_vec() }
 }
 
 /// A graph with forks and loops; each block lies on a complete path.
@@ -77,7 +77,7 @@ fn graph(random: &mut Random) -> Task {
             }
             successors.sort();
             successors.dedup();
-            task.push(Block { successors, references: Vec::new() });
+            task.push(block(&successors, &[]));
         }
         if complete(&task) {
             return task;
@@ -141,6 +141,16 @@ fn layers(wide: usize, narrow: usize, n: usize, first: usize, many: Many) -> Tas
     task
 }
 
+/// Blocks in a row, each with one reference more than the one before, so that a mask on a late block lowers the numbers.
+fn stairs(count: usize, first: usize) -> Task {
+    let step = |b: usize| {
+        let references: Vec<u16> = (0..=b).map(|k| (first + k) as u16).collect();
+        let next: Vec<usize> = (b + 1..count).take(1).collect();
+        block(&next, &references)
+    };
+    (0..count).map(step).collect()
+}
+
 fn task(random: &mut Random, n: usize, i: usize) -> Task {
     // the ranges of tasks begin at multiples of 8,191
     let first = 8191 * i + (n - 8191 * i % n) % n;
@@ -150,6 +160,7 @@ fn task(random: &mut Random, n: usize, i: usize) -> Task {
             let many = random.pick(&[Many::Both, Many::Reaching, Many::Live]);
             layers(8 + random.below(5), 3 + random.below(2), n, first, many)
         }
+        2 => stairs(1 + random.below(16), first),
         _ => {
             let graph = graph(random);
             with_references(random, graph, i)
@@ -157,18 +168,36 @@ fn task(random: &mut Random, n: usize, i: usize) -> Task {
     }
 }
 
-/// The longest file: 7,544 bytes.
+/// Masks no blocks of a task, a few, half of them, most, all but one, or all.
+fn mask(random: &mut Random, task: &mut Task) {
+    let kind = random.below(6);
+    let unmasked = random.below(task.len());
+    for (b, block) in task.iter_mut().enumerate() {
+        block.masked = match kind {
+            0 => false,
+            1 => random.one_in(6),
+            2 => random.one_in(2),
+            3 => !random.one_in(6),
+            4 => b != unmasked,
+            _ => true,
+        };
+    }
+}
+
+/// The longest file: 7,544 bytes. All blocks of task 0 are masked, and fewer of each later task.
 pub fn longest() -> Made {
     let whole = |i: usize, b: usize| Block {
+        masked: b >= 3 * i,
         successors: (0..3).chain([(b + 1).clamp(3, 23)]).collect(),
         references: (0..16).map(|k| (1000 * i + k) as u16).collect(),
     };
     Made { n: 16, tasks: (0..8).map(|i| (0..24).map(|b| whole(i, b)).collect()).collect() }
 }
 
-/// Two tasks of one block each that loop.
-pub fn loops() -> Made {
-    Made { n: 2, tasks: vec![vec![block(&[0], &[0, 1])], vec![block(&[0], &[2])]] }
+/// Two tasks of one block each that loop; that of task 0 is masked or not.
+pub fn loops(masked: bool) -> Made {
+    let own = Block { masked, ..block(&[0], &[0, 1]) };
+    Made { n: 2, tasks: vec![vec![own], vec![block(&[0], &[2])]] }
 }
 
 /// A sheet of that file: `length` blocks, and `count` preemptions of `other` blocks each.
@@ -193,11 +222,17 @@ pub fn made(random: &mut Random) -> Made {
             *last = 65534;
         }
     }
+    // one file in three is left without masked blocks
+    if !random.one_in(3) {
+        for task in &mut tasks {
+            mask(random, task);
+        }
+    }
     Made { n: n as u8, tasks }
 }
 
 /// How many ways there are to damage a file.
-pub const DAMAGES: usize = 24;
+pub const DAMAGES: usize = 25;
 
 /// The file with one fault, of the kind asked for where it has room for that.
 pub fn damaged(random: &mut Random, made: &Made, kind: usize) -> Vec<u8> {
@@ -206,16 +241,16 @@ pub fn damaged(random: &mut Random, made: &Made, kind: usize) -> Vec<u8> {
     let chosen = random.below(bodies.len());
     match kind {
         0..=9 => damage_head(random, &mut file, made.tasks.len(), kind),
-        10..=17 => {
+        10..=18 => {
             damage_body(random, &made.tasks[chosen], &mut bodies[chosen], kind);
             file = packed(made.n, &bodies);
         }
-        18 => {
+        19 => {
             // all memory blocks of another task
             bodies[chosen] = random.pick(&bodies.iter().collect::<Vec<_>>()).clone();
             file = packed(made.n, &bodies);
         }
-        19..=22 => {
+        20..=23 => {
             bodies[chosen] = encode(&with_fault(random, &made.tasks[chosen], kind, chosen));
             file = packed(made.n, &bodies);
         }
@@ -250,11 +285,11 @@ fn damage_head(random: &mut Random, file: &mut Vec<u8>, t: usize, kind: usize) {
 fn damage_body(random: &mut Random, task: &Task, body: &mut Vec<u8>, kind: usize) {
     let chosen = random.below(task.len());
     let start = block_starts(task)[chosen];
-    let Block { successors, references } = &task[chosen];
+    let Block { successors, references, .. } = &task[chosen];
     match kind {
         10 => body[0] = random.pick(&[0, 25, 255, body[0] - 1, body[0] + 1]),
         11 => body[1] = 1,
-        12 => body[start + random.below(3)] ^= 1 << random.below(6),
+        12 => body[start + 1 + random.below(2)] ^= 1 << random.below(6),
         13 => body.truncate(random.below(body.len())),
         14 => body.push(0),
         15 if !successors.is_empty() => {
@@ -266,6 +301,7 @@ fn damage_body(random: &mut Random, task: &Task, body: &mut Vec<u8>, kind: usize
             let place = start + 3 + successors.len() + 2 * random.below(references.len());
             body[place..place + 2].fill(255);
         }
+        18 => body[start] = random.pick(&[2, 3, 128, 254, 255]),
         _ => {}
     }
 }
@@ -276,10 +312,10 @@ fn with_fault(random: &mut Random, task: &Task, kind: usize, i: usize) -> Task {
     let over = random.below(2);
     let chosen = random.below(task.len());
     match kind {
-        19 if over == 0 => task.push(block(&[], &[])),
-        19 => task[chosen].successors.clear(),
-        20 => task[chosen].references = vec![8191 * i as u16; 16 + over],
-        21 if task.len() > 4 => task[chosen].successors = (0..4 + over).collect(),
+        20 if over == 0 => task.push(block(&[], &[])),
+        20 => task[chosen].successors.clear(),
+        21 => task[chosen].references = vec![8191 * i as u16; 16 + over],
+        22 if task.len() > 4 => task[chosen].successors = (0..4 + over).collect(),
         _ => {
             while task.len() < 24 + over {
                 let last = task.len() - 1;
@@ -330,16 +366,19 @@ fn path(random: &mut Random, task: &Task) -> Vec<u16> {
     }
 }
 
-/// A run sheet that Replay accepts, and the preempting task of each preemption.
-pub fn sheet(random: &mut Random, tasks: &[Task]) -> (Vec<u16>, Vec<usize>) {
-    let p = random.below(tasks.len());
-    let own = path(random, &tasks[p]);
-    let count = if tasks.len() == 1 { 0 } else { random.below(17) };
-    let mut points: Vec<u16> = (0..count).map(|_| random.below(own.len()) as u16).collect();
+/// The positions of a path whose blocks are masked, and the others.
+fn positions(task: &Task, path: &[u16]) -> (Vec<u16>, Vec<u16>) {
+    (0..path.len() as u16).partition(|&position| task[path[position as usize] as usize].masked)
+}
+
+/// The sheet of a path of task p with a preemption at each of these points, and the preempting task of each.
+fn preempted(
+    random: &mut Random, tasks: &[Task], p: usize, own: &[u16], mut points: Vec<u16>,
+) -> (Vec<u16>, Vec<usize>) {
     points.sort();
     let mut sheet = vec![p as u16, own.len() as u16];
     sheet.extend(own);
-    sheet.push(count as u16);
+    sheet.push(points.len() as u16);
     let mut preempting = Vec::new();
     for point in points {
         let j = (p + 1 + random.below(tasks.len() - 1)) % tasks.len();
@@ -349,6 +388,32 @@ pub fn sheet(random: &mut Random, tasks: &[Task]) -> (Vec<u16>, Vec<usize>) {
         preempting.push(j);
     }
     (sheet, preempting)
+}
+
+/// A run sheet that Replay accepts, and the preempting task of each preemption.
+pub fn sheet(random: &mut Random, tasks: &[Task]) -> (Vec<u16>, Vec<usize>) {
+    let p = random.below(tasks.len());
+    let own = path(random, &tasks[p]);
+    let (_, unmasked) = positions(&tasks[p], &own);
+    let count = if tasks.len() == 1 || unmasked.is_empty() { 0 } else { random.below(17) };
+    let points = (0..count).map(|_| random.pick(&unmasked)).collect();
+    preempted(random, tasks, p, &own, points)
+}
+
+/// A run sheet that is right but for a preemption after a masked block, or several; none where the path that is drawn
+/// passes no masked block or there is no other task.
+pub fn masked_sheet(random: &mut Random, tasks: &[Task]) -> Option<Vec<u16>> {
+    let p = random.below(tasks.len());
+    let own = path(random, &tasks[p]);
+    let (masked, unmasked) = positions(&tasks[p], &own);
+    if tasks.len() == 1 || masked.is_empty() {
+        return None;
+    }
+    let mut points = vec![random.pick(&masked)];
+    // the others come anywhere, or after unmasked blocks alone
+    let others = if unmasked.is_empty() || random.one_in(2) { [masked, unmasked].concat() } else { unmasked };
+    points.extend((0..random.below(16)).map(|_| random.pick(&others)));
+    Some(preempted(random, tasks, p, &own, points).0)
 }
 
 /// The sheet with one fault, and the check that is at fault.

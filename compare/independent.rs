@@ -1,4 +1,5 @@
-//! Document 01 once more, in plain Rust: by paths, and with sets of rows. Written from the document alone, to compare with.
+//! Document 01 with Point 1 of document 02 once more, in plain Rust: by paths, and with sets of rows. Written from the
+//! documents alone, to compare with.
 use std::collections::BTreeSet;
 
 pub const AREA: usize = 24832;
@@ -12,6 +13,8 @@ pub type Row = [u16; 16];
 
 #[derive(Clone)]
 pub struct Block {
+    /// No preemption comes after it.
+    pub masked: bool,
     pub successors: Vec<usize>,
     pub references: Vec<u16>,
 }
@@ -45,7 +48,7 @@ fn decode(body: &[u8]) -> Option<Task> {
     let mut task = Task::new();
     for _ in 0..blocks {
         let (flags, successor_count, reference_count) = (bytes.next()?, bytes.next()?, bytes.next()?);
-        if flags != 0 || successor_count > 4 || reference_count > 16 {
+        if flags > 1 || successor_count > 4 || reference_count > 16 {
             return None;
         }
         let mut successors = Vec::new();
@@ -64,7 +67,7 @@ fn decode(body: &[u8]) -> Option<Task> {
             }
             references.push(memory_block as u16);
         }
-        task.push(Block { successors, references });
+        task.push(Block { masked: flags == 1, successors, references });
     }
     bytes.next().is_none().then_some(task)
 }
@@ -246,12 +249,12 @@ pub fn row(area: &[u16], live: bool, block: usize, number: usize) -> (usize, usi
     (start + (32 * block + number) * 16, 16)
 }
 
-/// The sets of cache blocks that are useful at the end of some block.
-fn useful(states: &States) -> BTreeSet<BTreeSet<usize>> {
+/// The sets of cache blocks that are useful at the end of some block that isn't masked.
+fn useful(task: &Task, states: &States) -> BTreeSet<BTreeSet<usize>> {
     let mut sets = BTreeSet::new();
-    for (reaching, live) in states.reaching.iter().zip(&states.live) {
-        for held in reaching {
-            for wanted in live {
+    for b in (0..task.len()).filter(|&b| !task[b].masked) {
+        for held in &states.reaching[b] {
+            for wanted in &states.live[b] {
                 sets.insert((0..16).filter(|&c| held[c] == wanted[c] && held[c] != NOTHING).collect());
             }
         }
@@ -276,7 +279,7 @@ pub fn table(file: &[u8], area_length: usize, table: &mut [u16]) -> Result<(), R
         all.push(states(task, project.n).ok_or((11, i as u8))?);
     }
     table.fill(0);
-    let useful: Vec<_> = all.iter().map(useful).collect();
+    let useful: Vec<_> = project.tasks.iter().zip(&all).map(|(task, states)| useful(task, states)).collect();
     let used: Vec<_> = all.iter().map(used).collect();
     for i in 0..all.len() {
         for j in (0..all.len()).filter(|&j| j != i) {
@@ -401,6 +404,10 @@ pub fn replay(file: &[u8], sheet: &[u16]) -> Result<(u32, u32), Refusal> {
     let preempting = sheet.preemptions.iter().map(|(_, path)| path);
     if !preempting.chain([&sheet.run]).all(|path| is_complete_path(path, &project.tasks)) {
         return Err((13, 255));
+    }
+    let run_block = |point: u16| &project.tasks[sheet.run.task][sheet.run.blocks[point as usize] as usize];
+    if sheet.preemptions.iter().any(|(point, _)| run_block(*point).masked) {
+        return Err((16, 255));
     }
     Ok((run(&project, &sheet.run, &[]), run(&project, &sheet.run, &sheet.preemptions)))
 }

@@ -4,7 +4,7 @@ mod independent;
 
 use crpd::{calls, Head, Misses, Refusal};
 use generate::{
-    changed_sheet, damaged, damaged_sheet, longest, loop_sheet, loops, made, sheet, Made, Random, DAMAGES,
+    changed_sheet, damaged, damaged_sheet, longest, loop_sheet, loops, made, masked_sheet, sheet, Made, Random, DAMAGES,
 };
 use independent::{Block, AREA};
 use std::collections::BTreeMap;
@@ -317,6 +317,13 @@ fn compare_replay(report: &mut Report, file: &[u8], sheet: &[u16], places: usize
     found
 }
 
+/// A sheet that was made to fail this check; the independent implementation has to give it too.
+fn compare_refused(report: &mut Report, file: &[u8], sheet: &[u16], check: u8) {
+    compare_replay(report, file, sheet, 3);
+    let found = told(&independent::replay(file, sheet));
+    report.add("broken sheet", check, file, format!("{sheet:?}"), vec![differ("status", &[(check, 255)], &[found])]);
+}
+
 /// Runs of a file by the proved replay, valid and broken ones; none misses more than the proved table allows.
 fn compare_runs(report: &mut Report, random: &mut Random, made: &Made, file: &[u8], table: &[u16]) {
     let (sheet, preempting) = sheet(random, &made.tasks);
@@ -327,31 +334,41 @@ fn compare_runs(report: &mut Report, random: &mut Random, made: &Made, file: &[u
         let allowed: u32 = preempting.iter().map(|&j| table[8 * p + j] as u32).sum();
         let kept = answer[1] <= answer[2] && answer[2] <= answer[1] + allowed;
         let fault = (!kept).then(|| format!("{answer:?}, and the table allows {allowed} more"));
-        report.add("D - U", 0, file, format!("{sheet:?}"), vec![fault]);
+        // runs that pass a masked block and are preempted elsewhere are counted apart
+        let passed = &sheet[2..2 + sheet[1] as usize];
+        let masked = !preempting.is_empty() && passed.iter().any(|&block| made.tasks[p][block as usize].masked);
+        let name = if masked { "D - U, masks" } else { "D - U" };
+        report.add(name, 0, file, format!("{sheet:?}"), vec![fault]);
     }
     let (broken, check) = damaged_sheet(random, &made.tasks, &sheet);
-    compare_replay(report, file, &broken, 3);
-    let found = told(&independent::replay(file, &broken));
-    report.add("broken sheet", check, file, format!("{broken:?}"), vec![differ("status", &[(check, 255)], &[found])]);
+    compare_refused(report, file, &broken, check);
+    if let Some(masked) = masked_sheet(random, &made.tasks) {
+        compare_refused(report, file, &masked, 16);
+        // 12 and 13 go before 16
+        let (broken, check) = damaged_sheet(random, &made.tasks, &masked);
+        compare_refused(report, file, &broken, check);
+    }
     compare_replay(report, file, &changed_sheet(random, &sheet), 3);
     compare_replay(report, file, &sheet, random.pick(&[0, 1, 2, 4]));
 }
 
-/// Sheets that are right but for a length or a count at its limit or next to it.
+/// Sheets with a length or a count at its limit or next to it, without and with a masked block.
 fn compare_sheet_limits(report: &mut Report) {
-    let file = loops().file();
-    for length in [1, 2, 63, 64, 65] {
-        for count in [0, 1, 15, 16, 17] {
-            for other in [1, 63, 64, 65] {
-                compare_replay(report, &file, &loop_sheet(length, count, other), 3);
+    for file in [loops(false).file(), loops(true).file()] {
+        for length in [1, 2, 63, 64, 65] {
+            for count in [0, 1, 15, 16, 17] {
+                for other in [1, 63, 64, 65] {
+                    compare_replay(report, &file, &loop_sheet(length, count, other), 3);
+                }
             }
         }
     }
 }
 
-/// The examples of document 01 hold of the independent implementation.
+/// The examples of document 01, and the same file with flags, hold of the independent implementation.
 fn examples() {
     let block = |successors: &[usize], references: &[u16]| Block {
+        masked: false,
         successors: successors.to_vec(),
         references: references.to_vec(),
     };
@@ -365,6 +382,15 @@ fn examples() {
     assert_eq!(independent::replay(&e, &[0, 2, 0, 0, 1, 1, 1, 1, 0]), Ok((2, 2)));
     assert_eq!(independent::replay(&e, &[0, 0]), Err((12, 255)));
     assert_eq!(independent::replay(&e, &[0, 1, 5, 0]), Err((13, 255)));
+    // byte 18 has the flags of the block of task 0
+    let with_flags = |flags: u8| [&e[..18], &[flags], &e[19..]].concat();
+    let masked = with_flags(1);
+    assert_eq!(independent::table(&masked, AREA, &mut table), Ok(()));
+    assert_eq!(table, [0; 64]);
+    assert_eq!(independent::replay(&masked, &[0, 2, 0, 0, 1, 0, 1, 1, 0]), Err((16, 255)));
+    assert_eq!(independent::replay(&masked, &[0, 2, 0, 0, 0]), Ok((2, 2)));
+    assert_eq!(independent::replay(&masked, &[1, 1, 0, 1, 0, 0, 1, 0]), Ok((1, 1)));
+    assert_eq!(independent::table(&with_flags(2), AREA, &mut table), Err((8, 0)));
 }
 
 /// A valid file: every call with lists of the right length, every task and some that aren't there.
@@ -397,6 +423,9 @@ fn compare_damaged(report: &mut Report, random: &mut Random, made: &Made, seed: 
         let broken = damaged(random, made, kind);
         compare_file(report, &broken, random.below(made.tasks.len() + 1));
         compare_replay(report, &broken, &sheet(random, &made.tasks).0, 3);
+        if let Some(masked) = masked_sheet(random, &made.tasks) {
+            compare_replay(report, &broken, &masked, 3);
+        }
         compare_broken_bodies(report, made, &broken);
         if seed % 64 == 0 {
             compare_lengths(report, &broken);

@@ -7,7 +7,7 @@
  * call writes to one of them. The pointer of a list of 0 elements is never followed and may be null, as that of an
  * empty std::vector may be. Any other must not be null.
  *
- * Answers. Each call answers 0 when it is done, or the number of the check that fails first, 1 to 15 (below). What
+ * Answers. Each call answers 0 when it is done, or the number of the check that fails first, 1 to 16 (below). What
  * else it has to say stands in its last list (answer, named or found). A last list of another length than the one
  * named here is refused with 1 before anything else, and then no list is written, the last one too: a caller that
  * prints a task after that prints what the list held before. After every other answer each place of the last list
@@ -53,6 +53,7 @@ extern "C" {
  *      isn't there
  *  14  the out list is shorter than the file
  *  15  the task is not below t
+ *  16  a preemption in the run sheet comes after a masked block
  */
 enum crpd_status {
     CRPD_DONE = 0,
@@ -70,7 +71,8 @@ enum crpd_status {
     CRPD_CHECK_SHEET = 12,
     CRPD_CHECK_SHEET_PATHS = 13,
     CRPD_CHECK_OUT_LENGTH = 14,
-    CRPD_CHECK_TASK = 15
+    CRPD_CHECK_TASK = 15,
+    CRPD_CHECK_MASKED = 16
 };
 
 #define CRPD_NO_TASK 255  /* where a check names no task, and where a call is done */
@@ -81,6 +83,7 @@ enum crpd_status {
 #define CRPD_CACHE_BLOCKS 16   /* the most cache blocks */
 #define CRPD_TASKS 8           /* the most tasks */
 #define CRPD_BLOCKS 24         /* the most basic blocks of a task */
+#define CRPD_MASKED 1          /* the flags of a masked block, after which no preemption comes; those of other blocks are 0 */
 
 /* The work area: reaching rows, live rows, reaching counts, live counts, zeros. */
 #define CRPD_AREA_LENGTH 24832      /* numbers of a work area */
@@ -166,7 +169,8 @@ uint8_t crpd_row(
  * area: CRPD_AREA_LENGTH places to work in, which may hold anything before. Where named is of the right length they
  * may hold anything afterwards, refused or not.
  * numbers: CRPD_TABLE_LENGTH places, which keep their contents after a refusal. When the call is done:
- *   CRPD_TABLE_WIDTH * i + j: the number of task i preempted by task j; 0 where i is j or one of them is absent
+ *   CRPD_TABLE_WIDTH * i + j: the number of task i preempted by task j, over the blocks of i that are not masked; 0
+ *     where i has no such block, i is j or one of them is absent
  * named: CRPD_NAMED_LENGTH place:
  *   0: the task that the check names, or CRPD_NO_TASK
  */
@@ -175,7 +179,7 @@ uint8_t crpd_table(
     uint16_t *numbers, size_t numbers_length, uint8_t *named, size_t named_length);
 
 /*
- * Replay: the misses of a task's own references in a run, from an empty cache. Checks 2 to 10, 12 and 13.
+ * Replay: the misses of a task's own references in a run, from an empty cache. Checks 2 to 10, 12, 13 and 16.
  * file: its bytes, any number of them.
  * sheet: any number of places, of which check 12 asks, in this order and with nothing after them:
  *   task p, below t
@@ -183,7 +187,8 @@ uint8_t crpd_table(
  *   the path's blocks
  *   the number of preemptions, 0 to CRPD_PREEMPTIONS
  *   for each preemption:
- *     the point: a position in p's path, from 0, after whose block it comes; not below the point before
+ *     the point: a position in p's path, from 0, after whose block it comes; not below the point before. Check 16
+ *       asks that this block, in p's body, is not masked.
  *     the task, below t and not p
  *     its path's length, 1 to CRPD_PATH_LENGTH
  *     the path's blocks

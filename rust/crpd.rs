@@ -13,7 +13,7 @@ pub const NOTHING: u16 = 65535;
 /// In the answers of the calls for C: no task.
 const NO_TASK: u8 = 255;
 
-/// The check that fails first, 1 to 15, and the task that it names.
+/// The check that fails first, 1 to 16, and the task that it names.
 #[derive(Clone, Copy, Debug, PartialEq, Eq)]
 pub struct Refusal {
     pub check: u8,
@@ -106,7 +106,7 @@ pub fn table(file: &[u8], area: &mut [u16], numbers: &mut [u16]) -> Result<(), R
     result(status, named[0], ())
 }
 
-/// Replay: checks 2 to 10, 12 and 13.
+/// Replay: checks 2 to 10, 12, 13 and 16.
 #[inline]
 pub fn replay(file: &[u8], sheet: &[u16]) -> Result<Misses, Refusal> {
     let mut answer = [0; 3];

@@ -20,6 +20,7 @@ pub type Refusal = (u8, u8);
 pub type Row = Vec<u16>;
 
 pub struct Block {
+    masked: bool,
     successors: Vec<usize>,
     references: Vec<u16>,
 }
@@ -41,7 +42,7 @@ fn decode(body: &[u8]) -> Option<Task> {
     for _ in 0..count {
         let head = body.get(at..at + 3)?;
         let (successors, references) = (head[1] as usize, head[2] as usize);
-        if head[0] != 0 || 4 < successors || 16 < references {
+        if 1 < head[0] || 4 < successors || 16 < references {
             return None;
         }
         at += 3;
@@ -53,7 +54,7 @@ fn decode(body: &[u8]) -> Option<Task> {
         if jumps.windows(2).any(|w| w[1] <= w[0]) || jumps.iter().any(|&b| count <= b) || blocks.contains(&NOTHING) {
             return None;
         }
-        task.push(Block { successors: jumps, references: blocks });
+        task.push(Block { masked: head[0] == 1, successors: jumps, references: blocks });
     }
     if at == body.len() { Some(task) } else { None }
 }

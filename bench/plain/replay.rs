@@ -23,6 +23,9 @@ pub fn replay(file: &[u8], sheet: &[u16]) -> Result<(u32, u32), Refusal> {
     if !all_complete {
         return Err((13, 255));
     }
+    if run.preemptions.iter().any(|p| tasks[run.task][run.path[p.point] as usize].masked) {
+        return Err((16, 255));
+    }
     Ok((misses(n, &tasks, &run, &[]), misses(n, &tasks, &run, &run.preemptions)))
 }
 

@@ -1,5 +1,5 @@
 //! Table the plain way.
-use super::{live, reaching, read, Refusal, Row, NOTHING};
+use super::{live, reaching, read, Refusal, Row, Task, NOTHING};
 use std::collections::BTreeSet;
 
 fn useful(reached: &Row, next: &Row) -> u32 {
@@ -22,10 +22,13 @@ fn used(row: &Row) -> u32 {
     set
 }
 
-/// The most cache blocks that are useful in some block of one task and in one of the sets of the other.
-fn pair_number(reached: &[BTreeSet<Row>], lived: &[BTreeSet<Row>], sets: &BTreeSet<u32>) -> u32 {
+/// The most cache blocks that are useful in some block of one task that isn't masked and in one of the sets of the other.
+fn pair_number(task: &Task, reached: &[BTreeSet<Row>], lived: &[BTreeSet<Row>], sets: &BTreeSet<u32>) -> u32 {
     let mut most = 0;
-    for b in 0..reached.len() {
+    for b in 0..task.len() {
+        if task[b].masked {
+            continue;
+        }
         for r in &reached[b] {
             for l in &lived[b] {
                 let u = useful(r, l);
@@ -59,7 +62,7 @@ pub fn table(file: &[u8], area: &mut [u16], numbers: &mut [u16]) -> Result<(), R
                 continue;
             }
             let sets: BTreeSet<u32> = other[tasks[j].len() - 1].iter().map(used).collect();
-            numbers[8 * i + j] = pair_number(reached, lived, &sets) as u16;
+            numbers[8 * i + j] = pair_number(&tasks[i], reached, lived, &sets) as u16;
         }
     }
     Ok(())

@@ -42,7 +42,7 @@ module _ (x : Block) (r : List ℕ) where
     take-references,
     numbers-twoBytes (x .references),
     length-append (x .successors ++ twoBytes (x .references)) r,
-    eq-eqb (x .flags) 0 (h .flags),
+    le-leb (x .flags) 1 (h .flags),
     le-leb (length (x .successors)) 4 (h .successors),
     le-leb (length (x .references)) 16 (h .references),
     le-leb (length (x .successors) + 2 * length (x .references)) (length (x .successors ++ twoBytes (x .references)) + length r) (omega (arith, parts-long x)),
@@ -50,14 +50,14 @@ module _ (x : Block) (r : List ℕ) where
     real-all (x .references) (h .real),
   )
 
-  pub same-block : x .flags ≡ 0 → blockFrom (length (x .successors)) (length (x .references)) ((x .successors ++ twoBytes (x .references)) ++ r) ≡ x
-  same-block e = λ i. record { flags = sym e i; successors = take-successors i; references = (ap numbers take-references ∙ numbers-twoBytes (x .references)) i }
+  pub same-block : blockFrom (x .flags) (length (x .successors)) (length (x .references)) ((x .successors ++ twoBytes (x .references)) ++ r) ≡ x
+  same-block = λ i. record { flags = x .flags; successors = take-successors i; references = (ap numbers take-references ∙ numbers-twoBytes (x .references)) i }
 
 pub blocks-bytes : (B : ℕ) (t : Task) → Each (BlockInBounds B) t → blocksFrom B (length t) (blocksBytes t) ≡ decoded t
 unfolding blocksFrom
 blocks-bytes B [] h = refl
 blocks-bytes B (x ∷ t) h =
-    rw (block-passes x (blocksBytes t) B (h .0), drop-block x (blocksBytes t), blocks-bytes B t (h .1), same-block x (blocksBytes t) (h .0 .flags))
+    rw (block-passes x (blocksBytes t) B (h .0), drop-block x (blocksBytes t), blocks-bytes B t (h .1), same-block x (blocksBytes t))
 
 pub decode-bytes : (t : Task) → InBounds t → decode (bodyBytes t) ≡ decoded t
 unfolding decode
@@ -67,7 +67,7 @@ decode-bytes t h = rw (le-leb 1 (length t) (h .some), le-leb (length t) 24 (h .f
 
 -- what `blockTest` asks: the block with the flags f and the counts sc and rc keeps the bounds and stands in the bytes rest
 pub record Fits (B f sc rc : ℕ) (rest : List ℕ) : Type 0 where
-  pub flags : f ≡ 0
+  pub flags : f ≤ 1
   pub few : sc ≤ 4
   pub short : rc ≤ 16
   pub there : sc + 2 * rc ≤ length rest
@@ -76,12 +76,12 @@ pub record Fits (B f sc rc : ℕ) (rest : List ℕ) : Type 0 where
 
 pub fits : (B f sc rc : ℕ) (rest : List ℕ) → blockTest B f sc rc rest ≡ true → Fits B f sc rc rest
 fits B f sc rc rest e =
-    let e1 = both-right (eqb f 0) _ e in
+    let e1 = both-right (leb f 1) _ e in
     let e2 = both-right (leb sc 4) _ e1 in
     let e3 = both-right (leb rc 16) _ e2 in
     let e4 = both-right (leb (sc + 2 * rc) (length rest)) _ e3 in
     record {
-      flags = eqb-true f 0 (both-left (eqb f 0) _ e);
+      flags = leb-true f 1 (both-left (leb f 1) _ e);
       few = leb-true sc 4 (both-left (leb sc 4) _ e1);
       short = leb-true rc 16 (both-left (leb rc 16) _ e2);
       there = leb-true (sc + 2 * rc) (length rest) (both-left (leb (sc + 2 * rc) (length rest)) _ e3);
@@ -93,7 +93,7 @@ fits B f sc rc rest e =
 pub data Read (B : ℕ) : ℕ → List ℕ → Task → Type 0 where
   done : Read B zero [] []
   one : {left f sc rc : ℕ} {rest : List ℕ} {t : Task} → Fits B f sc rc rest → Read B left (drop (sc + 2 * rc) rest) t
-      → Read B (suc left) (f ∷ sc ∷ rc ∷ rest) (blockFrom sc rc rest ∷ t)
+      → Read B (suc left) (f ∷ sc ∷ rc ∷ rest) (blockFrom f sc rc rest ∷ t)
 
 pub no-task : {X : Type 0} {t : Task} → broken ≡ decoded t → X
 no-task e = let z : _≡_ {A = ℕ} 0 1 = cc in absurd (omega arith)
@@ -109,13 +109,13 @@ reads B (suc left) (f ∷ sc ∷ rc ∷ rest) t e =
     go (blockTest B f sc rc rest) (blocksFrom B left (drop (sc + 2 * rc) rest)) refl refl e (reads B left (drop (sc + 2 * rc) rest))
   where
     go : (b : Bool) (d : Decoded) → blockTest B f sc rc rest ≡ b → blocksFrom B left (drop (sc + 2 * rc) rest) ≡ d
-        → cond b (withBlock (blockFrom sc rc rest) d) broken ≡ decoded t
+        → cond b (withBlock (blockFrom f sc rc rest) d) broken ≡ decoded t
         → ((u : Task) → blocksFrom B left (drop (sc + 2 * rc) rest) ≡ decoded u → Read B left (drop (sc + 2 * rc) rest) u)
         → Read B (suc left) (f ∷ sc ∷ rc ∷ rest) t
     go false d p q e ih = no-task e
     go true broken p q e ih = no-task e
     go true (decoded u) p q e ih =
-        let z : blockFrom sc rc rest ∷ u ≡ t = cc in
+        let z : blockFrom f sc rc rest ∷ u ≡ t = cc in
         rw (← z) (one (fits B f sc rc rest p) (ih u q))
 
 pub read-length : {B left : ℕ} {s : List ℕ} {t : Task} → Read B left s t → length t ≡ left
@@ -132,7 +132,7 @@ pub read-bounds : {B left : ℕ} {s : List ℕ} {t : Task} → Read B left s t �
 read-bounds done = tt
 read-bounds {B} (one {sc = sc} {rc = rc} {rest = rest} h r) = (
   record {
-    flags = refl;
+    flags = h .flags;
     successors = omega (arith, successors-long sc rc rest (h .there), h .few);
     references = omega (arith, length-numbers (take (2 * rc) (drop sc rest)) rc (references-long sc rc rest (h .there)), h .short);
     below = rises-below B (take sc rest) (h .rises) .0;
@@ -158,8 +158,8 @@ read-bytes (one {f = f} {sc = sc} {rc = rc} {rest = rest} {t = t} h r) a =
     inside = all-take (λ (x : ℕ). x < 256) (2 * rc) (drop sc rest) (all-drop (λ (x : ℕ). x < 256) sc rest (a .1 .1 .1))
 
     go : length (take sc rest) ≡ sc → length (numbers bytes) ≡ rc → twoBytes (numbers bytes) ≡ bytes → drop (sc + 2 * rc) rest ≡ blocksBytes t
-        → f ∷ sc ∷ rc ∷ rest ≡ 0 ∷ length (take sc rest) ∷ length (numbers bytes) ∷ ((take sc rest ++ twoBytes (numbers bytes)) ++ blocksBytes t)
-    go m n p q = rw (m, n, p, ← q, h .flags, ← (take-add sc (2 * rc) rest), take-append-drop (sc + 2 * rc) rest)
+        → f ∷ sc ∷ rc ∷ rest ≡ f ∷ length (take sc rest) ∷ length (numbers bytes) ∷ ((take sc rest ++ twoBytes (numbers bytes)) ++ blocksBytes t)
+    go m n p q = rw (m, n, p, ← q, ← (take-add sc (2 * rc) rest), take-append-drop (sc + 2 * rc) rest)
 
 -- a body that begins with B and z and was decoded to the task
 record Opened (B z : ℕ) (s : List ℕ) (t : Task) : Type 0 where

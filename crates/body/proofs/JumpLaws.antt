@@ -18,12 +18,13 @@ use Rattle.cache.proofs.Masks.{bits-test}
 use Rattle.cache.proofs.Members.{in-empty, in-below}
 use Rattle.model.specs.Lists.{mem, Each}
 use Rattle.model.specs.Tasks.{Block, Task, block}
+use Rattle.model.specs.Computed.{unmasked}
 use Rattle.model.proofs.Membership.{all-of}
 use Rattle.model.proofs.Paths.{successor-below}
 use Rattle.body.specs.Layout.{BlockInBounds, InBounds}
 use Rattle.body.specs.Decode.{decoded, decode, taskOf}
 use Rattle.body.specs.Walk.{keptOf, blocksOf, startsOf}
-use Rattle.body.specs.Jumps.{setOf, jumpSets}
+use Rattle.body.specs.Jumps.{setOf, jumpSets, unmaskedSet}
 use Rattle.body.proofs.Decoded.{decoded-bounds}
 use Rattle.body.proofs.Turning.{no-set}
 use Rattle.body.proofs.WalksParts.{BlockParts, kept-decoded, walked-parts}
@@ -101,6 +102,11 @@ module _ (t : Task) (b c : ℕ) where
           sym (bits-test 24 c leads (in-below 24 (bits 24 leads) c (bits-lt 24 leads) has)) ∙ has
       go false q =
           absurd (false≢true (sym (in-empty c) ∙ sym (ap (λ (x : ℕ). inSet x c) (beyond t (24 - length t) b (ltb-false b (length t) q))) ∙ e))
+
+-- ---- unmasked blocks
+
+pub in-unmasked : (t : Task) (b : ℕ) → b < length t → inSet (unmaskedSet t) b ≡ unmasked t b
+in-unmasked t b h = bits-test (length t) b (unmasked t) h
 
 each-below : (B : ℕ) (t : Task) → Each (BlockInBounds B) t → (b c : ℕ) → mem eqb c (block t b .successors) ≡ true → c < B
 each-below B [] h b c e = absurd (false≢true e)

@@ -23,7 +23,7 @@ use Rattle.body.proofs.Decoded.{parts-long, fits}
 
 -- the block that stands at `at` in a body
 abbrev pub blockAt : ℕ → List ℕ → Block
-blockAt at s = blockFrom (getD s (at + 1) 0) (getD s (at + 2) 0) (drop (at + 3) s)
+blockAt at s = blockFrom (getD s at 0) (getD s (at + 1) 0) (getD s (at + 2) 0) (drop (at + 3) s)
 
 -- ---- one block
 

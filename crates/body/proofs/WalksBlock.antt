@@ -80,23 +80,23 @@ real-end s i h = sym (rw (numbers-end (drop i s) (simp length-drop (omega arith)
 -- the test of a block, in the order of the code: each test that fails decides, and behind all of them what the loops over the
 -- successors and the references answered
 module _ (B f sc rc : ℕ) (rest : List ℕ) where
-  pub test-flags : (f ≡ 0 → ⊥) → false ≡ blockTest B f sc rc rest
-  test-flags h = rw (ne-eqb f 0 h)
+  pub test-flags : 1 < f → false ≡ blockTest B f sc rc rest
+  test-flags h = rw (lt-leb f 1 h)
 
-  pub test-successors : f ≡ 0 → 4 < sc → false ≡ blockTest B f sc rc rest
-  test-successors clean many = rw (eq-eqb f 0 clean, lt-leb sc 4 many)
+  pub test-successors : f ≤ 1 → 4 < sc → false ≡ blockTest B f sc rc rest
+  test-successors clean many = rw (le-leb f 1 clean, lt-leb sc 4 many)
 
-  pub test-references : f ≡ 0 → sc ≤ 4 → 16 < rc → false ≡ blockTest B f sc rc rest
-  test-references clean few many = rw (eq-eqb f 0 clean, le-leb sc 4 few, lt-leb rc 16 many)
+  pub test-references : f ≤ 1 → sc ≤ 4 → 16 < rc → false ≡ blockTest B f sc rc rest
+  test-references clean few many = rw (le-leb f 1 clean, le-leb sc 4 few, lt-leb rc 16 many)
 
-  pub test-cut : f ≡ 0 → sc ≤ 4 → rc ≤ 16 → length rest < sc + 2 * rc → false ≡ blockTest B f sc rc rest
-  test-cut clean few short cut = rw (eq-eqb f 0 clean, le-leb sc 4 few, le-leb rc 16 short, lt-leb (sc + 2 * rc) (length rest) cut)
+  pub test-cut : f ≤ 1 → sc ≤ 4 → rc ≤ 16 → length rest < sc + 2 * rc → false ≡ blockTest B f sc rc rest
+  test-cut clean few short cut = rw (le-leb f 1 clean, le-leb sc 4 few, le-leb rc 16 short, lt-leb (sc + 2 * rc) (length rest) cut)
 
-  pub test-parts : {rises real : Bool} → f ≡ 0 → sc ≤ 4 → rc ≤ 16 → sc + 2 * rc ≤ length rest → rises ≡ risesBelow B (take sc rest)
+  pub test-parts : {rises real : Bool} → f ≤ 1 → sc ≤ 4 → rc ≤ 16 → sc + 2 * rc ≤ length rest → rises ≡ risesBelow B (take sc rest)
       → real ≡ allReal (numbers (take (sc + 2 * rc - sc) (drop sc rest))) → (rises && real) ≡ blockTest B f sc rc rest
   test-parts clean few short there rises real =
       let n : sc + 2 * rc - sc ≡ 2 * rc = omega arith in
-      rw (rises, real, n, eq-eqb f 0 clean, le-leb sc 4 few, le-leb rc 16 short, le-leb (sc + 2 * rc) (length rest) there)
+      rw (rises, real, n, le-leb f 1 clean, le-leb sc 4 few, le-leb rc 16 short, le-leb (sc + 2 * rc) (length rest) there)
 
 -- a block whose first three bytes are not there
 pub end-short : (B at : ℕ) (s : List ℕ) → length s < at + 3 → Broken ≡ blockEnd B at s

@@ -78,6 +78,7 @@ body-blocks (B ∷ z ∷ s) t h = (B, picked (leb 1 B && (leb B 24 && eqb z 0)) 
 
 -- the parts of the block x stand in the body s, which has it at `at`
 pub record BlockParts (s : List ℕ) (at : ℕ) (x : Block) : Type 0 where
+  pub flags : getD s at 0 ≡ x .flags
   pub successors-within : successorsEnd at s ≤ length s
   pub references-within : referencesEnd at s ≤ length s
   pub successors : successorsAt at s ≡ x .successors
@@ -86,6 +87,7 @@ pub record BlockParts (s : List ℕ) (at : ℕ) (x : Block) : Type 0 where
 of-stands : (s : List ℕ) (at : ℕ) (x : Block) → Stands s at x → BlockParts s at x
 of-stands s at x h =
     record {
+      flags = ap (λ (y : Block). y .flags) (h .1);
       successors-within = omega (arith, h .0);
       references-within = h .0;
       successors = ap (λ (y : Block). y .successors) (h .1);

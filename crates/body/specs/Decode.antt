@@ -33,14 +33,14 @@ abbrev pub allReal : List ℕ → Bool
 allReal [] = true
 allReal (m ∷ ms) = ltb m nothing && allReal ms
 
--- the block whose counts are the numbers sc and rc, before the bytes rest
-abbrev pub blockFrom : ℕ → ℕ → List ℕ → Block
-blockFrom sc rc rest = record { flags = 0; successors = take sc rest; references = numbers (take (2 * rc) (drop sc rest)) }
+-- the block whose flags byte is f and whose counts are the numbers sc and rc, before the bytes rest
+abbrev pub blockFrom : ℕ → ℕ → ℕ → List ℕ → Block
+blockFrom f sc rc rest = record { flags = f; successors = take sc rest; references = numbers (take (2 * rc) (drop sc rest)) }
 
 -- its flags, counts, successors and references are within the bounds, and its bytes are there
 abbrev pub blockTest : ℕ → ℕ → ℕ → ℕ → List ℕ → Bool
 blockTest B f sc rc rest =
-    eqb f 0 && (leb sc 4 && (leb rc 16 && (leb (sc + 2 * rc) (length rest) && (risesBelow B (take sc rest) && allReal (numbers (take (2 * rc) (drop sc rest)))))))
+    leb f 1 && (leb sc 4 && (leb rc 16 && (leb (sc + 2 * rc) (length rest) && (risesBelow B (take sc rest) && allReal (numbers (take (2 * rc) (drop sc rest)))))))
 
 -- the last `left` blocks of a task of B blocks
 unfoldable pub blocksFrom : ℕ → ℕ → List ℕ → Decoded
@@ -50,7 +50,7 @@ blocksFrom B (suc left) [] = broken
 blocksFrom B (suc left) (f ∷ []) = broken
 blocksFrom B (suc left) (f ∷ sc ∷ []) = broken
 blocksFrom B (suc left) (f ∷ sc ∷ rc ∷ rest) =
-    cond (blockTest B f sc rc rest) (withBlock (blockFrom sc rc rest) (blocksFrom B left (drop (sc + 2 * rc) rest))) broken
+    cond (blockTest B f sc rc rest) (withBlock (blockFrom f sc rc rest) (blocksFrom B left (drop (sc + 2 * rc) rest))) broken
 
 unfoldable pub decode : Body → Decoded
 decode [] = broken

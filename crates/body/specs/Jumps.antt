@@ -9,6 +9,7 @@ use lib.ListN.{length, getD, replicate}
 use Rattle.cache.specs.Sets.{bits, inSet}
 use Rattle.model.specs.Lists.{mem}
 use Rattle.model.specs.Tasks.{Block, Task}
+use Rattle.model.specs.Computed.{unmasked}
 
 -- the set of the numbers in a list
 abbrev pub setOf : List ℕ → ℕ
@@ -17,6 +18,10 @@ setOf l = bits 24 (λ c. mem eqb c l)
 -- for each of 24 blocks the set of its successors; 0 for a block that is not there
 abbrev pub jumpSets : Task → List ℕ
 jumpSets t = map (λ (x : Block). setOf (x .successors)) t ++ replicate (24 - length t) 0
+
+-- the set of the unmasked blocks
+abbrev pub unmaskedSet : Task → ℕ
+unmaskedSet t = bits (length t) (unmasked t)
 
 -- the blocks that sets of blocks lead to from the block `first`, itself among them
 pub data LedTo (sets : List ℕ) (first : ℕ) : ℕ → Type 0 where

@@ -1,4 +1,4 @@
--- Document 01, "The project file": the layout of a task's body. Definitions only.
+-- Document 01, "The project file", and document 02, Point 1: the layout of a task's body. Definitions only.
 use mathlib.Core.Path.{_≡_}
 use mathlib.Core.List.{List, [], _∷_, _++_}
 use Prim.Native.Nat.{ℕ, _/_, _%_, _≤_, _<_}
@@ -12,7 +12,7 @@ abbrev pub twoBytes : List ℕ → List ℕ
 twoBytes [] = []
 twoBytes (m ∷ ms) = m % 256 ∷ m / 256 ∷ twoBytes ms
 
--- "each block: flags byte (0), successor count (0 to 4), reference count (0 to 16), the successors (one byte each ..), the
+-- "each block: flags byte .., successor count (0 to 4), reference count (0 to 16), the successors (one byte each ..), the
 -- references (two bytes each ..)"
 abbrev pub blockBytes : Block → List ℕ
 blockBytes x = x .flags ∷ length (x .successors) ∷ length (x .references) ∷ (x .successors ++ twoBytes (x .references))
@@ -35,10 +35,11 @@ StrictlyRising [] = Unit {0}
 StrictlyRising (x ∷ []) = Unit {0}
 StrictlyRising (x ∷ y ∷ l) = (x < y) × StrictlyRising (y ∷ l)
 
--- a block of a task of B blocks: flags 0; "successor count (0 to 4), reference count (0 to 16), the successors (.. below B, strictly
+-- a block of a task of B blocks: document 02, Point 1: "The flags byte of a block may be 1 .. Flags of 2 or more remain check 8."; document
+-- 01: "successor count (0 to 4), reference count (0 to 16), the successors (.. below B, strictly
 -- rising), the references (.. 0 to 65,534)"
 pub record BlockInBounds (B : ℕ) (x : Block) : Type 0 where
-  pub flags : x .flags ≡ 0
+  pub flags : x .flags ≤ 1
   pub successors : length (x .successors) ≤ 4
   pub references : length (x .references) ≤ 16
   pub below : All (λ (s : ℕ). s < B) (x .successors)

@@ -9,6 +9,9 @@ use cache::numbers::byte_count;
 use cache::references::number_at;
 use cache::row::Row;
 
+// The largest flags byte: 1 marks a masked block, after which no preemption comes.
+const FLAGS: u8 = 1;
+
 // The most successors of a block.
 const SUCCESSORS: usize = 4;
 
@@ -59,7 +62,7 @@ fn all_real(references: &[u8]) -> bool
 fn block_kept(flags: u8, successors: usize, references: usize, rest: &[u8], blocks: u8) -> bool
     ensures { λ r. ⌜ r ≡ blockTest blocks flags successors references (now (rest .entry)) ⌝ }
 {
-    if flags != 0 {
+    if FLAGS < flags {
         return false;
     }
     if SUCCESSORS < successors {

@@ -1,6 +1,7 @@
 // The body of a task: whether its bytes keep the layout, and where its blocks and their parts stand.
 pub mod block;
 pub mod jumps;
+pub mod masks;
 pub mod paths;
 pub mod predecessors;
 

@@ -7,9 +7,9 @@ use native.Mathlib.Nat.{zero-add}
 use native.Mathlib.Omega.{arith}
 use lib.ListN.{getD}
 use borrow.Author.Tests.{lt-ltb, ne-eqb}
-use Rattle.cache.specs.Sets.{usefulUsed}
 use Rattle.model.specs.Tasks.{task}
-use Rattle.model.proofs.Most.{most-is}
+use Rattle.model.specs.Numbers.{NumberOverAll}
+use Rattle.model.proofs.Most.{pair-is, without-masks}
 use Rattle.project.specs.declared.answers.Check.{Check}
 use Rattle.project.specs.declared.answers.Check.the-variants.{Passed}
 use Rattle.project.specs.declared.answers.Check.the-variants.{Refused as Failed}
@@ -19,7 +19,7 @@ use Rattle.project.specs.Checklist.{noTask}
 use Rattle.project.specs.Reading.{fileCheck, readingOf}
 use Rattle.project.specs.Bodies.{accepted}
 use Rattle.project.specs.Filling.{pickFilling}
-use Rattle.project.specs.Tasks.{tasksOf, fileCache}
+use Rattle.project.specs.Tasks.{tasksOf, filePair, fileCache}
 use Rattle.project.specs.declared.answers.Reading.the-variants.{Accepted}
 use Rattle.project.proofs.TaskFaults.{Bytes}
 use Rattle.project.proofs.Accepted.{unless-passed, then-passed, passing, accepted-passed}
@@ -29,7 +29,7 @@ use Rattle.table.proofs.TableLaws.{place-at}
 use Rattle.table.proofs.Answers.{later-parts}
 use Rattle.replay.proofs.Replays.{replayed, run-replayed, sheet-two-bytes}
 use Rattle.claims.proofs.Sheets.{of-the-run}
-use Rattle.claims.specs.Demand.{TableEntries, Demand3Whole}
+use Rattle.claims.specs.Demand.{TableEntries, NoMasks, Demand3Whole}
 
 filled-passed : (c : Check) → pickFilling c ≡ Filled → c ≡ Passed
 filled-passed Passed e = refl
@@ -54,9 +54,13 @@ demand-3-whole s h n t e =
     let (q, en, et) = accepted-passed s n t e in
     record {
       runs = file-demand-3 s h n t e;
-      numbers = λ i j. most-is (usefulUsed (fileCache s)) (fileCache s) (task (tasksOf s) i) (task (tasksOf s) j);
+      numbers = λ i j. pair-is (fileCache s) (task (tasksOf s) i) (task (tasksOf s) j);
       entries = table-entries s;
       answers = of-the-run s h;
       described = replayed s h;
       sheets = λ run f. (run-replayed s (ap accepted e) run f, sheet-two-bytes s (ap accepted e) run f);
     }
+
+-- a file without masked blocks has the numbers of document 01 alone
+pub numbers-without-masks : (s : List ℕ) → NoMasks s → (i j : ℕ) → NumberOverAll (fileCache s) (task (tasksOf s) i) (task (tasksOf s) j) (filePair s i j)
+numbers-without-masks s free i j = without-masks (fileCache s) (task (tasksOf s) i) (task (tasksOf s) j) (free i)

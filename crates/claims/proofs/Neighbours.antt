@@ -1,15 +1,23 @@
 -- False neighbours of demand 3, refuted over files and calls.
--- The idea: E's replay has U = 2 and D = 3, and its pair numbers are 1 and 0.
+-- The idea: E's replay has U = 2 and D = 3, and its pair numbers are 1 and 0; with byte 18 = 01 task 0 is masked, with byte 28 = 01 task 1.
 use mathlib.Core.Path.{_≡_, refl}
 use mathlib.Core.List.{List, [], _∷_}
 use Prim.Native.Nat.{ℕ, _+_, _≤_}
 use native.Mathlib.Omega.{arith}
+use lib.ListN.{set}
 use Rattle.cache.specs.References.{nothing, numbers}
+use Rattle.model.specs.Tasks.{SomeUnmasked, task}
+use Rattle.model.specs.Numbers.{NumberOverAll}
+use Rattle.model.specs.Runs.{DisturbedRun}
+use Rattle.model.proofs.Neighbours.{over-all-1, none-costs-1, masked-1}
 use Rattle.body.specs.Decode.{decode, blocksFrom}
 use Rattle.project.specs.FileE.{fileE}
-use Rattle.project.specs.Tasks.{filePair}
+use Rattle.project.specs.declared.answers.Reading.the-variants.{Accepted}
+use Rattle.project.specs.Reading.{readingOf}
+use Rattle.project.specs.Tasks.{tasksOf, fileCache, filePair}
 use Rattle.replay.specs.declared.Replaying.the-variants.{Counted}
 use Rattle.replay.specs.Replay.{replayingOf}
+use Rattle.claims.specs.Demand.{fileU, fileD}
 use Rattle.claims.proofs.Papers.{papers}
 
 -- "a preemption costs nothing"
@@ -31,3 +39,21 @@ not-always-reached h = let e = h (1 ∷ 1 ∷ 1 ∷ 0 ∷ []) 2 2 (papers .later
 -- "who preempts whom does not matter"
 pub not-symmetric : ((s : List ℕ) → filePair s 0 1 ≡ filePair s 1 0) → ⊥
 not-symmetric h = let e = h fileE in omega (arith, e, number01, number10)
+
+-- E with byte 18 = 01 and with byte 28 = 01
+abbrev masked0 : List ℕ
+masked0 = set fileE 18 1
+
+abbrev masked1 : List ℕ
+masked1 = set fileE 28 1
+
+-- "the number over all blocks, masked ones too, is reached"
+pub not-over-all : ((s : List ℕ) (n t i j x : ℕ) → readingOf s ≡ Accepted n t → NumberOverAll (fileCache s) (task (tasksOf s) i) (task (tasksOf s) j) x
+    → (run : DisturbedRun (tasksOf s)) × (run .p ≡ i) × (fileD s run ≡ fileU s run + x)) → ⊥
+unfolding nothing numbers decode blocksFrom
+not-over-all h = let (run, p, e) = h masked0 2 2 0 1 1 refl over-all-1 in none-costs-1 run p e
+
+-- "a masked preempting task costs nothing"
+pub not-by-masked : ((s : List ℕ) (n t i j : ℕ) → readingOf s ≡ Accepted n t → (SomeUnmasked (task (tasksOf s) j) → ⊥) → filePair s i j ≡ 0) → ⊥
+unfolding nothing numbers decode blocksFrom
+not-by-masked h = let e : _≡_ {A = ℕ} 1 0 = h masked1 2 2 0 1 refl masked-1 in omega arith

@@ -1,11 +1,11 @@
--- Demand 3 over files and calls, as one claim about an accepted file. Definitions only.
+-- Demand 3 over files and calls, with document 02, Point 1, as one claim about an accepted file. Definitions only.
 use mathlib.Core.Path.{_≡_}
 use mathlib.Core.Logic.{_≢_}
 use mathlib.Core.List.{List}
 use Prim.Native.Nat.{ℕ, _+_, _*_, _<_}
-use lib.ListN.{getD}
+use lib.ListN.{length, getD}
 use Rattle.cache.specs.References.{All}
-use Rattle.model.specs.Tasks.{task}
+use Rattle.model.specs.Tasks.{Unmasked, task}
 use Rattle.model.specs.Numbers.{PairNumber}
 use Rattle.model.specs.Runs.{DisturbedRun, U, D}
 use Rattle.model.specs.Demand.{Demand3}
@@ -53,9 +53,13 @@ RunsReplayed s =
     (run : DisturbedRun (tasksOf s)) → Fits (tasksOf s) run
     → (replayingOf s (sheetOf s run) ≡ Counted (fileU s run) (fileD s run)) × All (λ (x : ℕ). x < 65536) (sheetOf s run)
 
--- demand 3 whole, over an accepted file: for every disturbed run U <= D <= U + the sum of the pair numbers, and for every two different tasks
--- a run with exactly one preemption that reaches its number (`Demand3`); the numbers are those over paths, the table's entries are these numbers, and
--- the replay's answers these U and D
+-- no block of the file is masked
+abbrev pub NoMasks : File → Type 0
+NoMasks s = (i b : ℕ) → b < length (task (tasksOf s) i) → Unmasked (task (tasksOf s) i) b
+
+-- demand 3 whole, over an accepted file: for every disturbed run U <= D <= U + the sum of the pair numbers, and for every two different tasks, the
+-- first with an unmasked block, a run with exactly one preemption that reaches its number (`Demand3`); the numbers are those over paths, the
+-- table's entries are these numbers, and the replay's answers these U and D
 pub record Demand3Whole (s : File) : Type 0 where
   pub runs : Demand3 (fileCache s) (tasksOf s)
   pub numbers : NumbersOfPaths s

@@ -1,10 +1,11 @@
-// Runs document 01's examples of project files, and prints what each call answers.
+// Runs document 01's examples of project files, and those of document 02, Point 1, and prints what each call answers.
 ghost use mathlib.Core.Path.{_≡_};
 ghost use mathlib.Core.List.{replicate};
 ghost use Prim.Native.Nat.{_≤_, _<_};
 ghost use lib.ListN.{set};
 use example_files::APART;
 use example_files::E;
+use example_files::MASKED;
 use example_files::with_byte;
 use libc::STDOUT_FILENO;
 use project::answers::Filling;
@@ -71,6 +72,8 @@ fn show_bodies() {
     show_reading(b"E without its last byte", &E[0..32]);
     show_changed(b"E, byte 21 = 01", 21, 0x01);
     show_changed(b"E, byte 26 = 00", 26, 0x00);
+    show_changed(b"E, byte 18 = 01: a masked block", 18, 0x01);
+    show_changed(b"E, byte 18 = 02", 18, 0x02);
     show_reading(b"two blocks, no successors", &APART);
     show_changed(b"E, byte 31 = 00", 31, 0x00);
 }
@@ -174,11 +177,13 @@ fn show_fillings() {
     show_states(2, 24832);
 }
 
-// What replaying a sheet on E answers.
-fn show_replay(name: &[u8], sheet: &[u16]) {
-    print(b"Replay on E of ");
+// What replaying a sheet on a file answers.
+fn show_replay_on(file_name: &[u8], file: &[u8], name: &[u8], sheet: &[u16]) {
+    print(b"Replay on ");
+    print(file_name);
+    print(b" of ");
     print(name);
-    match replay::replay(&E, sheet) {
+    match replay::replay(file, sheet) {
         Replaying::Counted {
             undisturbed,
             disturbed,
@@ -189,6 +194,11 @@ fn show_replay(name: &[u8], sheet: &[u16]) {
             print_refusal(check, task);
         }
     }
+}
+
+// What replaying a sheet on E answers.
+fn show_replay(name: &[u8], sheet: &[u16]) {
+    show_replay_on(b"E", &E, name, sheet);
 }
 
 // A sheet of task 0 with a path of 65 blocks.
@@ -249,6 +259,48 @@ fn show_paths() {
     );
 }
 
+// Runs of a task whose one block is masked.
+fn show_masked_task() {
+    let file = with_byte(18, 0x01);
+    let name = b"E with byte 18 = 01";
+    show_replay_on(
+        name,
+        &file,
+        b"0, 2, 0, 0, 1, 0, 1, 1, 0",
+        &[0, 2, 0, 0, 1, 0, 1, 1, 0],
+    );
+    show_replay_on(name, &file, b"0, 2, 0, 0, 0", &[0, 2, 0, 0, 0]);
+    show_replay_on(
+        name,
+        &file,
+        b"0, 2, 0, 0, 1, 0, 1, 2, 0, 0: no such jump",
+        &[0, 2, 0, 0, 1, 0, 1, 2, 0, 0],
+    );
+}
+
+// Runs through a masked block: preempted before it, at it, and at it the second time.
+fn show_masked_block() {
+    let name = b"three blocks, the second masked,";
+    show_replay_on(
+        name,
+        &MASKED,
+        b"0, 3, 0, 1, 2, 1, 0, 1, 1, 0",
+        &[0, 3, 0, 1, 2, 1, 0, 1, 1, 0],
+    );
+    show_replay_on(
+        name,
+        &MASKED,
+        b"0, 3, 0, 1, 2, 1, 1, 1, 1, 0",
+        &[0, 3, 0, 1, 2, 1, 1, 1, 1, 0],
+    );
+    show_replay_on(
+        name,
+        &MASKED,
+        b"0, 3, 0, 1, 2, 2, 0, 1, 1, 0, 1, 1, 1, 0",
+        &[0, 3, 0, 1, 2, 2, 0, 1, 1, 0, 1, 1, 1, 0],
+    );
+}
+
 fn main() {
     show_heads();
     show_bodies();
@@ -262,4 +314,6 @@ fn main() {
     show_sheets();
     show_preemptions();
     show_paths();
+    show_masked_task();
+    show_masked_block();
 }

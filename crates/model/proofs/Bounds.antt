@@ -6,25 +6,28 @@ use mathlib.Core.Logic.{_≢_}
 use mathlib.Core.Bool.{Bool, true, false, cond}
 use mathlib.Core.List.{List, [], _∷_}
 use Prim.Native.Nat.{ℕ, suc, _+_, _≤_}
+use native.Mathlib.Nat.{zero-add, add-zero, add-suc, suc-add}
 use native.Mathlib.Omega.{arith}
 use lib.Dec.{eqb}
+use lib.ListN.{getD}
+use borrow.Author.Tests.{eqb-true}
 use Rattle.cache.specs.References.{Real, All}
 use Rattle.cache.specs.Cache.{Cache, emptyRow, withReferences, misses}
 use Rattle.cache.specs.Firsts.{firstsOver}
 use Rattle.cache.specs.Sets.{usefulUsed}
 use Rattle.cache.proofs.Rows.{length-emptyRow, firstReferences-fold}
 use Rattle.model.specs.Lists.{mem, Each}
-use Rattle.model.specs.Tasks.{Block, Task, block, end, PathFrom, stay, step, Complete, references, memoryBlocks, task, Rules}
+use Rattle.model.specs.Tasks.{Block, Task, block, Unmasked, end, PathFrom, stay, step, Complete, references, memoryBlocks, task, Rules}
 use Rattle.model.specs.States.{Reaches, Lives}
 use Rattle.model.specs.Numbers.{Count, Rows, Most}
 use Rattle.model.specs.Runs.{Preemption, Preempts, DisturbedRun, withPoint, U, D}
-use Rattle.model.specs.Computed.{most}
+use Rattle.model.specs.Computed.{unmasked, most}
 use Rattle.model.specs.Demand.{pairSum, Bounded}
 use Rattle.model.proofs.Membership.{all-in, all-of}
 use Rattle.model.proofs.Universe.{references-in}
 use Rattle.model.proofs.Paths.{path-first, references-each}
 use Rattle.model.proofs.Exact.{reaches-on, reaches-first, reaches-end}
-use Rattle.model.proofs.Most.{most-is}
+use Rattle.model.proofs.Most.{unmasked-most}
 use Rattle.model.proofs.Events.{Event, Ref, Preempt, own, refs, total, Parts, Apart}
 use Rattle.model.proofs.Lost.{total-refs}
 use Rattle.model.proofs.Disjoint.{lower, upper-used}
@@ -38,6 +41,17 @@ each-withPoint P i (x ∷ xs) h = go (eqb (x .point) i) (each-withPoint P i xs (
     go true r = (h .0, r)
     go false r = r
 
+-- a preemption at a point comes after the block that the path has there, and that block is unmasked
+unmasked-at : (ts : List Task) (p : ℕ) (path : List ℕ) (i b : ℕ) (xs : List Preemption) → getD path i 0 ≡ b → Each (Preempts ts p path) xs
+    → Each (λ (x : Preemption). Unmasked (task ts p) b) (withPoint i xs)
+unmasked-at ts p path i b [] at h = tt
+unmasked-at ts p path i b (x ∷ xs) at h = go (eqb (x .point) i) refl (unmasked-at ts p path i b xs at (h .1))
+  where
+    go : (s : Bool) → eqb (x .point) i ≡ s → Each (λ (x : Preemption). Unmasked (task ts p) b) (withPoint i xs)
+        → Each (λ (x : Preemption). Unmasked (task ts p) b) (cond s (x ∷ withPoint i xs) (withPoint i xs))
+    go true q r = (rw (eqb-true (x .point) i q, at) at (h .0 .unmasked), r)
+    go false q r = r
+
 -- ---- what the preemptions of a run cost, by any count
 
 module _ (v : Count) (k : Cache) (ts : List Task) (p : ℕ) where
@@ -45,17 +59,17 @@ module _ (v : Count) (k : Cache) (ts : List Task) (p : ℕ) where
   t = task ts p
 
   abbrev number : Preemption → ℕ
-  number x = most v k t (task ts (x .by))
+  number x = most v k t (task ts (x .by)) (unmasked t)
 
   total-preempts : (path : List ℕ) (ys : List Preemption) (es : List Event) (b : ℕ) (u ms : List ℕ) → Each (Preempts ts p path) ys
-      → Reaches k t b u → Lives k t b (firstsOver k ms (emptyRow k)) → own es ≡ ms
+      → Each (λ (x : Preemption). Unmasked t b) ys → Reaches k t b u → Lives k t b (firstsOver k ms (emptyRow k)) → own es ≡ ms
       → total v k u (preempts ts ys es) ≤ weigh number ys + total v k u es
-  total-preempts path [] es b u ms h r l o = omega arith
-  total-preempts path (y ∷ ys) es b u ms h r l o =
+  total-preempts path [] es b u ms h free r l o = omega arith
+  total-preempts path (y ∷ ys) es b u ms h free r l o =
       rw (own-preempts ts ys es, o) (omega (
         arith,
-        total-preempts path ys es b u ms (h .1) r l o,
-        most-is v k t (task ts (y .by)) .bound (record {
+        total-preempts path ys es b u ms (h .1) (free .1) r l o,
+        unmasked-most v k t (task ts (y .by)) .bound (record {
           at = b;
           reaching = u;
           live = firstsOver k ms (emptyRow k);
@@ -63,28 +77,32 @@ module _ (v : Count) (k : Cache) (ts : List Task) (p : ℕ) where
           reaches = r;
           lives = l;
           ends = reaches-end k (task ts (y .by)) (y .path) (h .0 .complete);
-        }),
+        }) (free .0),
       ))
 
   to-end : {b e : ℕ} {q : List ℕ} → e ≡ end t → PathFrom t b q e → PathFrom t b q (end t)
   to-end z w = rw z at w
 
-  total-run : (path : List ℕ) (xs : List Preemption) → Each (Preempts ts p path) xs → {b e : ℕ} {q : List ℕ} (i : ℕ) (u : List ℕ) → e ≡ end t → PathFrom t b q e
+  total-run : (path : List ℕ) (xs : List Preemption) → Each (Preempts ts p path) xs → {b e : ℕ} {q : List ℕ} (i : ℕ) (u : List ℕ)
+      → ((m : ℕ) → getD path (i + m) 0 ≡ getD (b ∷ q) m 0) → e ≡ end t → PathFrom t b q e
       → Reaches k t b (withReferences k u (block t b .references)) → total v k u (runEvents ts t xs i (b ∷ q)) ≤ weighAt number xs i (b ∷ q)
-  total-run path xs h {b} i u z (stay l) r =
+  total-run path xs h {b} i u at z (stay l) r =
       rw (total-refs v k (block t b .references) u (preempts ts (withPoint i xs) []))
       (omega (
         arith,
-        total-preempts path (withPoint i xs) [] b (withReferences k u (block t b .references)) [] (each-withPoint (Preempts ts p path) i xs h) r
+        total-preempts path (withPoint i xs) [] b (withReferences k u (block t b .references)) [] (each-withPoint (Preempts ts p path) i xs h)
+            (unmasked-at ts p path i b xs (rw add-zero at (at 0)) h) r
             ([], to-end z (stay l), sym (firstReferences-fold k [])) refl,
       ))
-  total-run path xs h {b} i u z (step {c = c} {p = q} m w) r =
+  total-run path xs h {b} i u at z (step {c = c} {p = q} m w) r =
       rw (total-refs v k (block t b .references) u (preempts ts (withPoint i xs) (runEvents ts t xs (suc i) (c ∷ q))))
       (omega (
         arith,
-        total-preempts path (withPoint i xs) (runEvents ts t xs (suc i) (c ∷ q)) b (withReferences k u (block t b .references)) (references t (c ∷ q)) (each-withPoint (Preempts ts p path) i xs h) r
+        total-preempts path (withPoint i xs) (runEvents ts t xs (suc i) (c ∷ q)) b (withReferences k u (block t b .references)) (references t (c ∷ q)) (each-withPoint (Preempts ts p path) i xs h)
+            (unmasked-at ts p path i b xs (rw add-zero at (at 0)) h) r
             (c ∷ q, step m (to-end z w), sym (firstReferences-fold k (references t (c ∷ q)))) (own-run ts t xs (suc i) (c ∷ q)),
-        total-run path xs h (suc i) (withReferences k u (block t b .references)) z w (reaches-on k t b c (withReferences k u (block t b .references)) r m (path-first t w)),
+        total-run path xs h (suc i) (withReferences k u (block t b .references)) (λ x. rw (suc-add i x, ← (add-suc i x)) (at (suc x))) z w
+            (reaches-on k t b c (withReferences k u (block t b .references)) r m (path-first t w)),
       ))
 
   pub total-le : (path : List ℕ) (xs : List Preemption) → Each (Preempts ts p path) xs → Complete t path → total v k (emptyRow k) (runEvents ts t xs 0 path) ≤ weigh number xs
@@ -92,7 +110,7 @@ module _ (v : Count) (k : Cache) (ts : List Task) (p : ℕ) where
   total-le (b ∷ q) xs h (e, w) =
       omega (
         arith,
-        total-run (b ∷ q) xs h 0 (emptyRow k) refl w (rw e (reaches-first k t (path-first t (rw e at w)))),
+        total-run (b ∷ q) xs h 0 (emptyRow k) (λ x. rw zero-add) refl w (rw e (reaches-first k t (path-first t (rw e at w)))),
         weighAt-le number xs (b ∷ q) 0,
       )
 

@@ -7,23 +7,25 @@ use mathlib.Core.List.{List, [], _∷_}
 use Prim.Native.Nat.{ℕ, zero, suc, _+_, _≤_, _<_}
 use native.Mathlib.Omega.{arith}
 use lib.Dec.{eqb}
-use lib.ListN.{length, drop}
+use lib.ListN.{length, getD, drop}
 use borrow.Author.Tests.{eqb-true}
 use Rattle.cache.specs.Sum.{count}
 use Rattle.cache.specs.References.{nothing, Real, All}
 use Rattle.cache.specs.Cache.{Cache, direct, held, firstReferences}
 use Rattle.cache.specs.Sets.{used, usefulUsed}
 use Rattle.model.specs.Lists.{mem, best}
-use Rattle.model.specs.Tasks.{Block, Task, end, PathFrom, stay, step, Complete, OnCompletePath, references, memoryBlocks, Share, task, Rules}
+use Rattle.model.specs.Tasks.{Block, Task, Unmasked, SomeUnmasked, end, PathFrom, stay, step, Complete, OnCompletePath, references, memoryBlocks, Share, task, Rules}
 use Rattle.model.specs.States.{Reaches, Lives}
-use Rattle.model.specs.Numbers.{Count}
-use Rattle.model.specs.Runs.{Preemption, Preempts, DisturbedRun, U, D}
-use Rattle.model.specs.Computed.{State, sameState, close, liveNext, rounds, rowsAt, reachingStates, most, pairNumber}
-use Rattle.model.specs.Demand.{pairSum}
+use Rattle.model.specs.Numbers.{Count, NumberOverAll}
+use Rattle.model.specs.Runs.{Preemption, Preempts, DisturbedRun, countAtEnd, U, D}
+use Rattle.model.specs.Computed.{State, sameState, close, liveNext, rounds, rowsAt, reachingStates, unmasked, most, pairNumber}
+use Rattle.model.specs.Demand.{pairSum, NonePreempted}
 use Rattle.model.proofs.Membership.{or-cases, one-is}
 use Rattle.model.proofs.Sorted.{reaching-rows}
 use Rattle.model.proofs.Bounds.{bounded}
-use Rattle.model.specs.Figures.{tasksE, figure1}
+use Rattle.model.proofs.Most.{over-all-is}
+use Rattle.model.proofs.Demand.{none-preempted}
+use Rattle.model.specs.Figures.{tasksE, tasksMasked0, tasksMasked1, figure1}
 use Rattle.model.proofs.Examples.{byTask1}
 
 -- ---- the tasks of E keep the rules
@@ -73,8 +75,12 @@ loop p w = step refl w
 pub stops0 : PathFrom (task tasksE 0) 0 [] 0
 stops0 = stay {b = 0} (omega arith)
 
+unmasked0 : (b : ℕ) → Unmasked (task tasksE 0) b
+unmasked0 zero = refl
+unmasked0 (suc b) = refl
+
 pub by1 : (point : ℕ) (path : List ℕ) → point < length path → Preempts tasksE 0 path (byTask1 point)
-by1 point path h = record { inPath = h; there = omega arith; other = λ e. omega arith; complete = (refl, stay {b = 0} (omega arith)) }
+by1 point path h = record { inPath = h; there = omega arith; other = λ e. omega arith; unmasked = unmasked0 (getD path point 0); complete = (refl, stay {b = 0} (omega arith)) }
 
 abbrev pub onceE : DisturbedRun tasksE
 onceE = record {
@@ -148,13 +154,13 @@ not-without-stop h = omega (arith, h, once-counts, without-stop)
 abbrev pub usedOrNothing : Cache → Count
 usedOrNothing k r l f = count (k .width) (λ c. eqb (held r c) (held l c) && used f c)
 
-two-nothings : (most (usedOrNothing (direct 2)) (direct 2) (task tasksE 1) (task tasksE 0) ≡ 1) × (pairNumber (direct 2) (task tasksE 1) (task tasksE 0) ≡ 0)
+two-nothings : (most (usedOrNothing (direct 2)) (direct 2) (task tasksE 1) (task tasksE 0) (unmasked (task tasksE 1)) ≡ 1) × (pairNumber (direct 2) (task tasksE 1) (task tasksE 0) ≡ 0)
 unfolding nothing
 two-nothings = (refl, refl)
 
 -- then no run of task 1 with exactly one preemption, by task 0, reaches the number
 pub not-two-nothings : (r : DisturbedRun tasksE) (one : Preemption) → r .p ≡ 1 → r .preemptions ≡ one ∷ [] → one .by ≡ 0
-    → D (direct 2) r ≡ U (direct 2) r + most (usedOrNothing (direct 2)) (direct 2) (task tasksE 1) (task tasksE 0) → ⊥
+    → D (direct 2) r ≡ U (direct 2) r + most (usedOrNothing (direct 2)) (direct 2) (task tasksE 1) (task tasksE 0) (unmasked (task tasksE 1)) → ⊥
 not-two-nothings r one p q b e = omega (arith, e, two-nothings, bounded (direct 2) tasksE rulesE r .1, sum-none (r .p) (r .preemptions) one p q b)
   where
     sum-none : (i : ℕ) (xs : List Preemption) (one : Preemption) → i ≡ 1 → xs ≡ one ∷ [] → one .by ≡ 0 → pairSum (direct 2) tasksE i xs ≡ 0
@@ -166,3 +172,41 @@ not-two-nothings r one p q b e = omega (arith, e, two-nothings, bounded (direct 
 pub not-own-references : Reaches (direct 4) figure1 1 (nothing ∷ 1 ∷ 2 ∷ 3 ∷ []) → ⊥
 unfolding nothing
 not-own-references h = false≢true (reaching-rows (direct 4) figure1 1 (65535 ∷ 1 ∷ 2 ∷ 3 ∷ []) .1 h)
+
+-- ---- the number over all blocks, masked ones too
+
+over-all : (most (usefulUsed (direct 2)) (direct 2) (task tasksMasked0 0) (task tasksMasked0 1) (λ b. true) ≡ 1)
+    × (pairNumber (direct 2) (task tasksMasked0 0) (task tasksMasked0 1) ≡ 0)
+unfolding nothing
+over-all = (refl, refl)
+
+pub over-all-1 : NumberOverAll (direct 2) (task tasksMasked0 0) (task tasksMasked0 1) 1
+over-all-1 = rw (over-all .0) at (over-all-is (direct 2) (task tasksMasked0 0) (task tasksMasked0 1))
+
+all-masked : SomeUnmasked (task tasksMasked0 0) → ⊥
+all-masked (zero, l, e) = omega (arith, e)
+all-masked (suc b, l, e) = omega (arith, l)
+
+-- no run of task 0 costs that 1
+pub none-costs-1 : (r : DisturbedRun tasksMasked0) → r .p ≡ 0 → D (direct 2) r ≡ U (direct 2) r + 1 → ⊥
+none-costs-1 r p e = omega (arith, e, same (r .path) (r .preemptions) (none-preempted (direct 2) tasksMasked0 0 all-masked .runs r p))
+  where
+    same : (path : List ℕ) (xs : List Preemption) → xs ≡ []
+        → countAtEnd (direct 2) tasksMasked0 (task tasksMasked0 (r .p)) path xs ≡ countAtEnd (direct 2) tasksMasked0 (task tasksMasked0 (r .p)) path []
+    same path xs n = rw n
+
+pub not-over-all : ((ts : List Task) (i j x : ℕ) → NumberOverAll (direct 2) (task ts i) (task ts j) x → (r : DisturbedRun ts) × (r .p ≡ i) × (D (direct 2) r ≡ U (direct 2) r + x)) → ⊥
+not-over-all h = let (r, p, e) = h tasksMasked0 0 1 1 over-all-1 in none-costs-1 r p e
+
+-- ---- a masked preempting task costs nothing
+
+pub masked-1 : SomeUnmasked (task tasksMasked1 1) → ⊥
+masked-1 (zero, l, e) = omega (arith, e)
+masked-1 (suc b, l, e) = omega (arith, l)
+
+number-by-masked : pairNumber (direct 2) (task tasksMasked1 0) (task tasksMasked1 1) ≡ 1
+unfolding nothing
+number-by-masked = refl
+
+pub not-by-masked : ((i j : Task) → (SomeUnmasked j → ⊥) → pairNumber (direct 2) i j ≡ 0) → ⊥
+not-by-masked h = omega (arith, number-by-masked, h (task tasksMasked1 0) (task tasksMasked1 1) masked-1)

@@ -99,6 +99,11 @@ module _ (t : Task) where
       go (inl q) ih = let z : b ≡ a = eqb-true b a q in (([], rw z (stay (path-first t (step m w)))), (c ∷ p, rw z (step m w)))
       go (inr q) ih = let ((u, x), y) = ih q in ((c ∷ u, step m x), y)
 
+  -- a block on a complete path has a path to it from block 0, and one from it to the end block
+  pub to-and-from : (b : ℕ) → OnCompletePath t b → Leads 0 b × Leads b (end t)
+  to-and-from b ([], c, h) = absurd c
+  to-and-from b (a ∷ p, (z, w), h) = path-split b (rw z at w) (rw z at h)
+
   pub onPath-exact : (b : ℕ) → (onPath t b ≡ true) ↔ OnCompletePath t b
   onPath-exact b = (there, back)
     where
@@ -108,12 +113,8 @@ module _ (t : Task) where
           let (q, w) = toEnd-exact b .0 (both-right (mem eqb b (fromEntry t)) (mem eqb b (toEnd t)) e) in
           (0 ∷ (p ++ q), (refl, path-join t v w), mem-append-left eqb eqb-self eqb-true b (0 ∷ p) q (path-has-last v))
 
-      whole : (path : List ℕ) → Complete t path → mem eqb b path ≡ true → Leads 0 b × Leads b (end t)
-      whole [] c h = absurd c
-      whole (a ∷ p) (z, w) h = path-split b (rw z at w) (rw z at h)
-
       back : OnCompletePath t b → onPath t b ≡ true
-      back (path, c, h) = let (v, w) = whole path c h in rw (fromEntry-exact b .1 v, toEnd-exact b .1 w)
+      back h = let (v, w) = to-and-from b h in rw (fromEntry-exact b .1 v, toEnd-exact b .1 w)
 
   below-exact : (n : ℕ) → (onPathBelow t n ≡ true) ↔ ((b : ℕ) → b < n → OnCompletePath t b)
   below-exact zero = (λ e b l. absurd (not-suc-le-zero l), λ h. refl)

@@ -8,7 +8,7 @@ use Prim.Native.Nat.{ℕ, zero, suc, _+_, _<_}
 use native.Mathlib.Nat.{add-zero, add-suc, suc-add}
 use native.Mathlib.Omega.{arith}
 use lib.Dec.{eqb, ltb}
-use lib.ListN.{length, List·getD-eq-default}
+use lib.ListN.{length, getD, List·getD-eq-default}
 use borrow.Author.Tests.{eqb-true, ltb-true, ltb-false}
 use Rattle.model.specs.Lists.{mem}
 use Rattle.model.specs.Tasks.{Block, Task, noBlock, block, PathFrom, stay, step, Complete, references}
@@ -38,6 +38,21 @@ path-snoc t c (step m' w) m l = step m' (path-snoc t c w m l)
 pub path-join : (t : Task) {b c e : ℕ} {p q : List ℕ} → PathFrom t b p c → PathFrom t c q e → PathFrom t b (p ++ q) e
 path-join t (stay h) v = v
 path-join t (step m w) v = step m (path-join t w v)
+
+-- each block of a path is a block of the task
+pub path-inside : (t : Task) {b e : ℕ} {p : List ℕ} (n : ℕ) → PathFrom t b p e → n < length (b ∷ p) → getD (b ∷ p) n 0 < length t
+path-inside t zero w h = path-first t w
+path-inside t (suc n) (stay l) h = absurd (omega arith)
+path-inside t (suc n) (step m w) h = path-inside t n w (omega arith)
+
+pub complete-inside : (t : Task) (path : List ℕ) (n : ℕ) → Complete t path → n < length path → getD path n 0 < length t
+complete-inside t [] n c h = absurd c
+complete-inside t (b ∷ p) n (e, w) h = path-inside t n w h
+
+-- the block where a path ends stands in it after the others
+pub path-at : (t : Task) {b e : ℕ} {p : List ℕ} (q : List ℕ) → PathFrom t b p e → getD (b ∷ (p ++ q)) (length p) 0 ≡ e
+path-at t q (stay h) = refl
+path-at t q (step m w) = path-at t q w
 
 pub references-join : (t : Task) (p q : List ℕ) → references t (p ++ q) ≡ references t p ++ references t q
 references-join t [] q = refl

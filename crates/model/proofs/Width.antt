@@ -17,11 +17,11 @@ use Rattle.cache.specs.Firsts.{firstsOver}
 use Rattle.cache.specs.Sets.{useful, used, usefulUsed}
 use Rattle.cache.proofs.Sums.{sum-cong}
 use Rattle.cache.proofs.Rows.{length-emptyRow, length-withReference, length-withReferences, length-firstsOver, firstReferences-fold}
-use Rattle.model.specs.Tasks.{Task, end, PathFrom, references}
+use Rattle.model.specs.Tasks.{Task, Unmasked, end, PathFrom, references}
 use Rattle.model.specs.States.{Reaches, Lives}
-use Rattle.model.specs.Numbers.{Rows, counted, Most}
-use Rattle.model.specs.Computed.{most, pairNumber}
-use Rattle.model.proofs.Most.{most-is, most-unique}
+use Rattle.model.specs.Numbers.{Rows, counted, PairNumber}
+use Rattle.model.specs.Computed.{pairNumber}
+use Rattle.model.proofs.Most.{most-unique, pair-is}
 
 module _ (n : ℕ) (pos : 0 < n) (d : ℕ) where
   abbrev narrow : Cache
@@ -110,12 +110,14 @@ module _ (n : ℕ) (pos : 0 < n) (d : ℕ) where
 
   -- ---- the pair number
 
-  to-narrow : (i j : Task) (x : Rows broad i j) → (y : Rows narrow i j) × (counted (usefulUsed broad) x ≡ counted (usefulUsed narrow) y)
+  -- the same rows of a block, in the other width
+  to-narrow : (i j : Task) (x : Rows broad i j) → (y : Rows narrow i j) × (y .at ≡ x .at) × (counted (usefulUsed broad) x ≡ counted (usefulUsed narrow) y)
   to-narrow i j x =
       let r = reaches-narrow i (x .at) (x .reaching) (x .reaches) in
       let l = lives-narrow i (x .at) (x .live) (x .lives) in
       let f = reaches-narrow j (end j) (x .ending) (x .ends) in (
         record { at = x .at; reaching = r .inner; live = l .inner; ending = f .inner; reaches = r .holds; lives = l .holds; ends = f .holds },
+        refl,
         same-count (x .reaching) (x .live) (x .ending) (r .inner) (l .inner) (f .inner) (r .same) (l .same) (f .same) (r .long) (l .long) (f .long),
       )
     where
@@ -130,7 +132,7 @@ module _ (n : ℕ) (pos : 0 < n) (d : ℕ) where
   live-long t b row (p, w, e) =
       ap length (e ∙ firstReferences-fold narrow (references t p)) ∙ length-firstsOver narrow (references t p) (emptyRow narrow) (length-emptyRow narrow)
 
-  to-broad : (i j : Task) (x : Rows narrow i j) → (y : Rows broad i j) × (counted (usefulUsed broad) y ≡ counted (usefulUsed narrow) x)
+  to-broad : (i j : Task) (x : Rows narrow i j) → (y : Rows broad i j) × (y .at ≡ x .at) × (counted (usefulUsed broad) y ≡ counted (usefulUsed narrow) x)
   to-broad i j x = (
     record {
       at = x .at;
@@ -141,25 +143,26 @@ module _ (n : ℕ) (pos : 0 < n) (d : ℕ) where
       lives = lives-broad i (x .at) (x .live) (x .lives);
       ends = reaches-broad j (end j) (x .ending) (x .ends);
     },
+    refl,
     padded-count (x .reaching) (x .live) (x .ending) (row-long i (x .at) (x .reaching) (x .reaches)) (live-long i (x .at) (x .live) (x .lives)) (row-long j (end j) (x .ending) (x .ends)),
   )
 
-  broad-most : (i j : Task) → Most (usefulUsed broad) broad i j (pairNumber (direct n) i j)
+  broad-most : (i j : Task) → PairNumber broad i j (pairNumber narrow i j)
   broad-most i j = record {
-    bound = λ x. let (y, e) = to-narrow i j x in omega (arith, most-is (usefulUsed narrow) narrow i j .bound y);
-    attained = go (most-is (usefulUsed narrow) narrow i j .attained);
+    bound = λ x free. let (y, at, e) = to-narrow i j x in omega (arith, pair-is narrow i j .bound y (rw at free));
+    attained = go (pair-is narrow i j .attained);
   }
     where
-      go : (pairNumber (direct n) i j ≡ 0) ⊎ ((x : Rows narrow i j) × (counted (usefulUsed narrow) x ≡ pairNumber (direct n) i j))
-          → (pairNumber (direct n) i j ≡ 0) ⊎ ((y : Rows broad i j) × (counted (usefulUsed broad) y ≡ pairNumber (direct n) i j))
+      go : (pairNumber narrow i j ≡ 0) ⊎ ((x : Rows narrow i j) × Unmasked i (x .at) × (counted (usefulUsed narrow) x ≡ pairNumber narrow i j))
+          → (pairNumber narrow i j ≡ 0) ⊎ ((y : Rows broad i j) × Unmasked i (y .at) × (counted (usefulUsed broad) y ≡ pairNumber narrow i j))
       go (inl z) = inl z
-      go (inr (x, e)) = let (y, q) = to-broad i j x in inr (y, q ∙ e)
+      go (inr (x, free, e)) = let (y, at, q) = to-broad i j x in inr (y, rw at free, q ∙ e)
 
-  broad-number : (i j : Task) → most (usefulUsed broad) broad i j ≡ pairNumber (direct n) i j
-  broad-number i j = most-unique (usefulUsed broad) broad i j (most (usefulUsed broad) broad i j) (pairNumber (direct n) i j) (most-is (usefulUsed broad) broad i j) (broad-most i j)
+  broad-number : (i j : Task) → pairNumber broad i j ≡ pairNumber narrow i j
+  broad-number i j = most-unique (usefulUsed broad) broad i j (Unmasked i) (pairNumber broad i j) (pairNumber narrow i j) (pair-is broad i j) (broad-most i j)
 
 -- the pair number by rows of any width: it depends on n and the two tasks alone
-pub pair-width : (n w : ℕ) → 0 < n → n ≤ w → (i j : Task) → most (usefulUsed (wide w n)) (wide w n) i j ≡ pairNumber (direct n) i j
+pub pair-width : (n w : ℕ) → 0 < n → n ≤ w → (i j : Task) → pairNumber (wide w n) i j ≡ pairNumber (direct n) i j
 pair-width n w pos h i j =
     let e : w ≡ n + (w - n) = omega arith in
     rw e (broad-number n pos (w - n) i j)

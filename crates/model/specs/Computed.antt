@@ -109,12 +109,16 @@ living k t b = sorted (rowsAt b (liveStates k t))
 
 -- ---- the pair number
 
--- the most that v counts over a reaching row and a live row of one block of i, and a row that j ends with
-abbrev pub most : Count → Cache → Task → Task → ℕ
-most v k i j =
-    best (λ (x : State). best (λ (l : Row). best (λ (f : Row). v (x .1) l f) (rowsAt (end j) (reachingStates k j))) (rowsAt (x .0) (liveStates k i)))
+-- whether the block is unmasked
+abbrev pub unmasked : Task → ℕ → Bool
+unmasked t b = eqb (block t b .flags) 0
+
+-- the most that v counts over a reaching row and a live row of one block of i that passes the test, and a row that j ends with
+abbrev pub most : Count → Cache → Task → Task → (ℕ → Bool) → ℕ
+most v k i j test =
+    best (λ (x : State). cond (test (x .0)) (best (λ (l : Row). best (λ (f : Row). v (x .1) l f) (rowsAt (end j) (reachingStates k j))) (rowsAt (x .0) (liveStates k i))) 0)
     (reachingStates k i)
 
 -- the pair number of task i preempted by task j, in a cache
 abbrev pub pairNumber : Cache → Task → Task → ℕ
-pairNumber k i j = most (usefulUsed k) k i j
+pairNumber k i j = most (usefulUsed k) k i j (unmasked i)

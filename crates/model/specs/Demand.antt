@@ -1,11 +1,11 @@
--- Demand 3 over tasks: what a whole disturbed run can cost, and that each pair number is reached. Definitions only.
+-- Demand 3 over tasks, with document 02, Point 1: what a whole disturbed run can cost, and that each pair number is reached. Definitions only.
 use mathlib.Core.Path.{_≡_}
 use mathlib.Core.Logic.{_≢_}
 use mathlib.Core.List.{List, [], _∷_}
 use Prim.Native.Nat.{ℕ, _+_, _≤_, _<_}
 use lib.ListN.{length}
 use Rattle.cache.specs.Cache.{Cache}
-use Rattle.model.specs.Tasks.{Task, task}
+use Rattle.model.specs.Tasks.{Task, SomeUnmasked, task}
 use Rattle.model.specs.Runs.{Preemption, DisturbedRun, U, D}
 use Rattle.model.specs.Computed.{pairNumber}
 
@@ -27,6 +27,13 @@ pub record Reached (k : Cache) (ts : List Task) (i j : ℕ) : Type 0 where
   pub task-j : one .by ≡ j
   pub equal : D k run ≡ U k run + pairNumber k (task ts i) (task ts j)
 
+-- "a task with none unmasked has no run that must reach its 0": its numbers are 0, and no run of it has a preemption
+pub record NonePreempted (k : Cache) (ts : List Task) (i : ℕ) : Type 0 where
+  pub numbers : (j : Task) → pairNumber k (task ts i) j ≡ 0
+  pub runs : (r : DisturbedRun ts) → r .p ≡ i → r .preemptions ≡ []
+
 -- demand 3 for the tasks of a file, as one claim
-abbrev pub Demand3 : Cache → List Task → Type 0
-Demand3 k ts = ((r : DisturbedRun ts) → Bounded k ts r) × ((i j : ℕ) → i < length ts → j < length ts → j ≢ i → Reached k ts i j)
+pub record Demand3 (k : Cache) (ts : List Task) : Type 0 where
+  pub bounds : (r : DisturbedRun ts) → Bounded k ts r
+  pub reached : (i j : ℕ) → i < length ts → j < length ts → j ≢ i → SomeUnmasked (task ts i) → Reached k ts i j
+  pub masked : (i : ℕ) → (SomeUnmasked (task ts i) → ⊥) → NonePreempted k ts i

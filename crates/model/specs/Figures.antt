@@ -7,6 +7,10 @@ use Rattle.model.specs.Tasks.{Block, Task}
 abbrev pub basic : List ℕ → List ℕ → Block
 basic successors references = record { flags = 0; successors = successors; references = references }
 
+-- a masked block
+abbrev pub masked : List ℕ → List ℕ → Block
+masked successors references = record { flags = 1; successors = successors; references = references }
+
 -- "the graph in figure 1 of source document 002 (n = 4, block B4 the end)": the paper of Negi, Mitra and Roychoudhury
 abbrev pub figure1 : Task
 figure1 = basic (1 ∷ 2 ∷ []) (0 ∷ []) ∷ basic (3 ∷ []) (1 ∷ 2 ∷ 3 ∷ []) ∷ basic (3 ∷ []) (4 ∷ 5 ∷ []) ∷ basic (0 ∷ []) (6 ∷ []) ∷ []
@@ -32,3 +36,10 @@ forks =
 -- the tasks of E, n = 2: "Task 0 loops over memory blocks 0 and 1; task 1 reads 2."
 abbrev pub tasksE : List Task
 tasksE = (basic (0 ∷ []) (0 ∷ 1 ∷ []) ∷ []) ∷ (basic [] (2 ∷ []) ∷ []) ∷ []
+
+-- the tasks of E with byte 18 = 01, where the block of task 0 is masked, and with byte 28 = 01, where that of task 1 is
+abbrev pub tasksMasked0 : List Task
+tasksMasked0 = (masked (0 ∷ []) (0 ∷ 1 ∷ []) ∷ []) ∷ (basic [] (2 ∷ []) ∷ []) ∷ []
+
+abbrev pub tasksMasked1 : List Task
+tasksMasked1 = (basic (0 ∷ []) (0 ∷ 1 ∷ []) ∷ []) ∷ (masked [] (2 ∷ []) ∷ []) ∷ []

@@ -1,10 +1,10 @@
--- Document 01, "Paths and cache": the pair number, against paths. Definitions only.
+-- Document 01, "Paths and cache", and document 02, Point 1: the pair number, against paths. Definitions only.
 use mathlib.Core.Path.{_≡_}
 use mathlib.Core.Logic.{_⊎_}
 use Prim.Native.Nat.{ℕ, _≤_}
 use Rattle.cache.specs.Cache.{Cache, Row}
 use Rattle.cache.specs.Sets.{usefulUsed}
-use Rattle.model.specs.Tasks.{Task, end}
+use Rattle.model.specs.Tasks.{Task, Unmasked, end}
 use Rattle.model.specs.States.{Reaches, Lives}
 
 -- a number for a reaching row and a live row of one block, and an end row of another task
@@ -25,12 +25,16 @@ pub record Rows (k : Cache) (i j : Task) : Type 0 where
 abbrev pub counted : Count → {k : Cache} {i j : Task} → Rows k i j → ℕ
 counted v x = v (x .reaching) (x .live) (x .ending)
 
--- x is the most that v counts over all rows that paths make, and 0 where there are none
-pub record Most (v : Count) (k : Cache) (i j : Task) (x : ℕ) : Type 0 where
-  pub bound : (rows : Rows k i j) → counted v rows ≤ x
-  pub attained : (x ≡ 0) ⊎ ((rows : Rows k i j) × (counted v rows ≡ x))
+-- x is the most that v counts over all rows that paths make at the blocks of i with the property, and 0 where there are none
+pub record Most (v : Count) (k : Cache) (i j : Task) (At : ℕ → Type 0) (x : ℕ) : Type 0 where
+  pub bound : (rows : Rows k i j) → At (rows .at) → counted v rows ≤ x
+  pub attained : (x ≡ 0) ⊎ ((rows : Rows k i j) × At (rows .at) × (counted v rows ≡ x))
 
 -- "Pair number of task i preempted by task j: the most cache blocks both useful in i and used by j, over all blocks, row pairs
--- and used sets."
+-- and used sets."; Point 1: "Pair numbers range over blocks with flag 0 and are 0 if a task has none."
 abbrev pub PairNumber : Cache → Task → Task → ℕ → Type 0
-PairNumber k i j x = Most (usefulUsed k) k i j x
+PairNumber k i j x = Most (usefulUsed k) k i j (Unmasked i) x
+
+-- the number of document 01 alone, over masked blocks too
+abbrev pub NumberOverAll : Cache → Task → Task → ℕ → Type 0
+NumberOverAll k i j x = Most (usefulUsed k) k i j (λ (b : ℕ). Unit {0}) x

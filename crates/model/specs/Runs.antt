@@ -1,14 +1,14 @@
--- Document 01, "Paths and cache": disturbed runs, U and D. Definitions only.
+-- Document 01, "Paths and cache", and document 02, Point 1: disturbed runs, U and D. Definitions only.
 use mathlib.Core.Logic.{_≢_}
 use mathlib.Core.Bool.{not, cond}
 use mathlib.Core.List.{List, [], _∷_}
 use Prim.Native.Nat.{ℕ, suc, _+_, _≤_, _<_}
 use lib.Dec.{eqb}
-use lib.ListN.{length}
+use lib.ListN.{length, getD}
 use Rattle.cache.specs.Sum.{bit}
 use Rattle.cache.specs.Cache.{Cache, Row, emptyRow, hits, withReference, withReferences}
 use Rattle.model.specs.Lists.{Each}
-use Rattle.model.specs.Tasks.{Block, Task, block, Path, Complete, references, task}
+use Rattle.model.specs.Tasks.{Block, Task, block, Unmasked, Path, Complete, references, task}
 
 -- "A preemption is a point (a position in the path, from 0), a task other than p and a complete path of that task."
 pub record Preemption : Type 0 where
@@ -16,11 +16,13 @@ pub record Preemption : Type 0 where
   pub by : ℕ
   pub path : Path
 
--- a preemption of the path of the task p, in the file of the tasks ts
+-- a preemption of the path of the task p, in the file of the tasks ts; Point 1: "preemptions avoid masked blocks (its path may pass them)",
+-- so that the block at the point is unmasked
 pub record Preempts (ts : List Task) (p : ℕ) (path : Path) (x : Preemption) : Type 0 where
   pub inPath : x .point < length path
   pub there : x .by < length ts
   pub other : x .by ≢ p
+  pub unmasked : Unmasked (task ts p) (getD path (x .point) 0)
   pub complete : Complete (task ts (x .by)) (x .path)
 
 -- "Points .. never fall; equal ones are allowed."

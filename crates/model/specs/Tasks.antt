@@ -1,4 +1,5 @@
--- Document 01, "The project file" and "Paths and cache": basic blocks, tasks, paths and the rules that tasks keep. Definitions only.
+-- Document 01, "The project file" and "Paths and cache", and document 02, Point 1: basic blocks, tasks, masked blocks, paths and the rules
+-- that tasks keep. Definitions only.
 use mathlib.Core.Path.{_≡_}
 use mathlib.Core.Logic.{_≢_}
 use mathlib.Core.Bool.{true}
@@ -24,6 +25,14 @@ noBlock = record { flags = 0; successors = []; references = [] }
 
 abbrev pub block : Task → ℕ → Block
 block t b = getD t b noBlock
+
+-- document 02, Point 1: "The flags byte of a block may be 1: no preemption after it.": the block is not masked
+abbrev pub Unmasked : Task → ℕ → Type 0
+Unmasked t b = block t b .flags ≡ 0
+
+-- the task has an unmasked block
+abbrev pub SomeUnmasked : Task → Type 0
+SomeUnmasked t = (b : ℕ) × (b < length t) × Unmasked t b
 
 -- "Block 0 is the entry, block B - 1 the end."
 abbrev pub end : Task → ℕ

@@ -14,11 +14,12 @@ use lib.Seq.{drop-cons, getD-set-same, getD-set-other}
 use lib.Bits.{bitAnd, and-step, and-zero-l}
 use lib.Count.{ones, ones-step, ones-le}
 use borrow.Author.Tests.{eqb-true, eqb-false}
+use Rattle.cache.specs.Sets.{inSet}
 use Rattle.model.specs.Lists.{best}
 use Rattle.rows.specs.Rows.{rowsOf}
 use Rattle.rows.proofs.Parts.{rows-snoc}
 use Rattle.gather.specs.Memory.{heldRows}
-use Rattle.pairs.specs.Pairs.{usefulSet, mostCommon, rowUseful, blockUseful, taskUseful, usedOf, Met, Absorbed}
+use Rattle.pairs.specs.Pairs.{usefulSet, mostCommon, rowUseful, blockUseful, within, taskUseful, usedOf, Met, Absorbed}
 use Rattle.pairs.proofs.UsedSets.{lent-long, map-more}
 
 -- ---- the most that a set has in common with one of some sets
@@ -185,3 +186,13 @@ module _ (sets counts : List ℕ) where
         → Met (taskUseful rs ls k 0) sets counts tasks n n' → Met (blockUseful r l) sets counts tasks n' n''
         → Met (taskUseful rs ls (k + 1) 0) sets counts tasks n n''
     met-task k rs ls e d p q = rw (task-more rs ls k e d) (met-append tasks p q)
+
+    -- the same where the rows are those of the blocks in a set: block k is in it, or it is not
+    module _ {n n' : List ℕ} (k s : ℕ) (rs ls : ℕ → List (List ℕ)) where
+      pub met-within : {n'' : List ℕ} {r l : List (List ℕ)} → inSet s k ≡ true → r ≡ rs k → l ≡ ls k
+          → Met (taskUseful (within s rs) ls k 0) sets counts tasks n n' → Met (blockUseful r l) sets counts tasks n' n''
+          → Met (taskUseful (within s rs) ls (k + 1) 0) sets counts tasks n n''
+      met-within {n'' = n''} {r = r} {l = l} h e d = met-task k (within s rs) ls {r = r} {l = l} (rw h e) d
+
+      pub met-outside : inSet s k ≡ false → Met (taskUseful (within s rs) ls k 0) sets counts tasks n n' → Met (taskUseful (within s rs) ls (k + 1) 0) sets counts tasks n n'
+      met-outside h p = met-task k (within s rs) ls {r = []} {l = ls k} (rw h) refl p (met-none tasks n')

@@ -1,8 +1,9 @@
 -- The most that the useful sets of a task have in common with the used sets of another is the pair number: `pair-number`.
--- The idea: the sets are exactly those of the rows that paths make, and the pair number is the one number that bounds them and is met.
-use mathlib.Core.Path.{_≡_, sym, ap₂, _∙_}
+-- The idea: the sets are exactly those of the rows that paths make at unmasked blocks, and the pair number is the one number that bounds them
+-- and is attained.
+use mathlib.Core.Path.{_≡_, refl, sym, ap₂, _∙_}
 use mathlib.Core.Logic.{_⊎_, inl, inr}
-use mathlib.Core.Bool.{Bool, true, false≢true}
+use mathlib.Core.Bool.{Bool, true, false, cond, false≢true}
 use mathlib.Core.List.{List, [], _∷_, _++_, map}
 use Prim.Native.Nat.{ℕ, zero, suc, _+_, _≤_, _<_}
 use native.Mathlib.Nat.{not-suc-le-zero, le-trans, zero-add, add-zero}
@@ -13,19 +14,19 @@ use lib.Bits.{bitAnd}
 use lib.Count.{ones}
 use borrow.Author.Tests.{eqb-true}
 use Rattle.cache.specs.Cache.{Cache}
-use Rattle.cache.specs.Sets.{useful, used, usefulUsed, bits}
+use Rattle.cache.specs.Sets.{useful, used, usefulUsed, bits, inSet}
 use Rattle.cache.proofs.Bits.{ones-useful-used}
 use Rattle.model.specs.Lists.{mem, best}
-use Rattle.model.specs.Tasks.{Task, end}
+use Rattle.model.specs.Tasks.{Task, Unmasked, end}
 use Rattle.model.specs.States.{Reaches, Lives}
 use Rattle.model.specs.Numbers.{Rows, counted, Most}
-use Rattle.model.specs.Computed.{sameList, sorted, reaching, living, pairNumber}
+use Rattle.model.specs.Computed.{sameList, sorted, reaching, living, unmasked, pairNumber}
 use Rattle.model.proofs.Membership.{or-cases, or-left, or-right, eqb-self, sameList-self, sameList-true, mem-append-left, mem-append-right, mem-append-cases, mem-map, mem-of-map}
 use Rattle.model.proofs.Paths.{path-last}
 use Rattle.model.proofs.Sorted.{sorted-has, sorted-only, reaching-rows, living-rows}
-use Rattle.model.proofs.Most.{best-le, best-attained, most-is, most-unique}
+use Rattle.model.proofs.Most.{best-le, best-attained, most-unique, unmasked-exact, pair-is}
 use Rattle.model.proofs.StatesWidth.{reaches-long}
-use Rattle.pairs.specs.Pairs.{usedSet, usefulSet, mostCommon, rowUseful, blockUseful, taskUseful}
+use Rattle.pairs.specs.Pairs.{usedSet, usefulSet, mostCommon, rowUseful, blockUseful, within, taskUseful}
 
 -- ---- the useful sets of a block are those of its rows
 
@@ -87,41 +88,51 @@ counts-as : (k : Cache) (r l f : List ℕ) → length r ≡ k .width → length 
 counts-as k r l f p q =
     ap₂ (λ (x y : ℕ). ones (bitAnd (bits x (useful r l)) (bits y (used f)))) p q ∙ ones-useful-used k r l f
 
-module _ (k : Cache) (i j : Task) (rs ls : ℕ → List (List ℕ)) (vs : List ℕ)
+-- rows are those of a block of the set
+within-rows : (set : ℕ) (rs : ℕ → List (List ℕ)) (b : ℕ) (r : List ℕ) → mem sameList r (within set rs b) ≡ true → (inSet set b ≡ true) × (mem sameList r (rs b) ≡ true)
+within-rows set rs b r e = go (inSet set b) refl e
+  where
+    go : (s : Bool) → inSet set b ≡ s → mem sameList r (cond s (rs b) []) ≡ true → (inSet set b ≡ true) × (mem sameList r (rs b) ≡ true)
+    go true q e = (q, e)
+    go false q e = absurd (false≢true e)
+
+module _ (k : Cache) (i j : Task) (set : ℕ) (rs ls : ℕ → List (List ℕ)) (vs : List ℕ) (marks : (b : ℕ) → b < length i → inSet set b ≡ unmasked i b)
     (reached : (b : ℕ) → b < length i → sorted (rs b) ≡ reaching k i b) (lived : (b : ℕ) → b < length i → sorted (ls b) ≡ living k i b)
     (sets : (v : ℕ) → mem eqb v vs ≡ mem eqb v (map usedSet (reaching k j (end j)))) where
   abbrev us : List ℕ
-  us = taskUseful rs ls (length i) 0
+  us = taskUseful (within set rs) ls (length i) 0
 
   abbrev number : ℕ
   number = best (λ (u : ℕ). mostCommon u vs) us
 
-  bound : (x : Rows k i j) → counted (usefulUsed k) x ≤ number
-  bound x =
+  bound : (x : Rows k i j) → Unmasked i (x .at) → counted (usefulUsed k) x ≤ number
+  bound x free =
       let inside = path-last i (x .reaches .1) in
       let r-in = sorted-only (rs (x .at)) (x .reaching) (rw (reached (x .at) inside) (reaching-rows k i (x .at) (x .reaching) .1 (x .reaches))) in
       let l-in = sorted-only (ls (x .at)) (x .live) (rw (lived (x .at) inside) (living-rows k i (x .at) (x .live) .1 (x .lives))) in
       let f-in = reaching-rows k j (end j) (x .ending) .1 (x .ends) in
+      let open-at : within set rs (x .at) ≡ rs (x .at) = rw (marks (x .at) inside, unmasked-exact i (x .at) .1 free) in
       let u = usefulSet (x .reaching) (x .live) in
       let v = usedSet (x .ending) in
-      let u-in = task-has rs ls (length i) 0 (x .at) u inside (rw (zero-add (x .at)) (block-has (rs (x .at)) (ls (x .at)) (x .reaching) (x .live) r-in l-in)) in
+      let u-in = task-has (within set rs) ls (length i) 0 (x .at) u inside (rw (zero-add (x .at), open-at) (block-has (rs (x .at)) (ls (x .at)) (x .reaching) (x .live) r-in l-in)) in
       let v-in = sets v ∙ mem-map sameList sameList-self sameList-true eqb eqb-self eqb-true usedSet (x .ending) (reaching k j (end j)) f-in in
       rw (← counts-as k (x .reaching) (x .live) (x .ending) (reaches-long k i (x .at) (x .reaching) (x .reaches)) (reaches-long k j (end j) (x .ending) (x .ends)))
       (le-trans (best-le eqb eqb-self eqb-true (λ (w : ℕ). ones (bitAnd u w)) v vs v-in) (best-le eqb eqb-self eqb-true (λ (w : ℕ). mostCommon w vs) u us u-in))
 
-  attained : (number ≡ 0) ⊎ ((x : Rows k i j) × (counted (usefulUsed k) x ≡ number))
+  attained : (number ≡ 0) ⊎ ((x : Rows k i j) × Unmasked i (x .at) × (counted (usefulUsed k) x ≡ number))
   attained = go (best-attained eqb eqb-self eqb-true (λ (u : ℕ). mostCommon u vs) us)
     where
       over : (u : ℕ) → mem eqb u us ≡ true → mostCommon u vs ≡ number
           → (mostCommon u vs ≡ 0) ⊎ ((v : ℕ) × (mem eqb v vs ≡ true) × (ones (bitAnd u v) ≡ mostCommon u vs))
-          → (number ≡ 0) ⊎ ((x : Rows k i j) × (counted (usefulUsed k) x ≡ number))
+          → (number ≡ 0) ⊎ ((x : Rows k i j) × Unmasked i (x .at) × (counted (usefulUsed k) x ≡ number))
       over u p e (inl z) = inl (sym e ∙ z)
       over u p e (inr (v, q, m)) =
-          let (b, h, w) = task-only rs ls (length i) 0 u p in
+          let (b, h, w) = task-only (within set rs) ls (length i) 0 u p in
           let inside : b < length i = omega (arith, h) in
-          let o = block-only (rs b) (ls b) u w in
+          let o = block-only (within set rs b) (ls b) u w in
+          let (marked, r-in) = within-rows set rs b (o .r) (o .reached) in
           let (f, f-in, fe) = mem-of-map sameList sameList-self sameList-true eqb eqb-self eqb-true usedSet v (reaching k j (end j)) (sym (sets v) ∙ q) in
-          let reaches = reaching-rows k i b (o .r) .0 (rw (← reached b inside) (sorted-has (rs b) (o .r) (o .reached))) in
+          let reaches = reaching-rows k i b (o .r) .0 (rw (← reached b inside) (sorted-has (rs b) (o .r) r-in)) in
           let ends = reaching-rows k j (end j) f .0 f-in in
           inr (
             record {
@@ -133,12 +144,13 @@ module _ (k : Cache) (i j : Task) (rs ls : ℕ → List (List ℕ)) (vs : List �
               lives = living-rows k i b (o .l) .0 (rw (← lived b inside) (sorted-has (ls b) (o .l) (o .lived)));
               ends = ends;
             },
+            unmasked-exact i b .0 (sym (marks b inside) ∙ marked),
             sym (counts-as k (o .r) (o .l) f (reaches-long k i b (o .r) reaches) (reaches-long k j (end j) f ends)) ∙ rw (← (o .is), ← fe) m ∙ e,
           )
 
-      go : (number ≡ 0) ⊎ ((u : ℕ) × (mem eqb u us ≡ true) × (mostCommon u vs ≡ number)) → (number ≡ 0) ⊎ ((x : Rows k i j) × (counted (usefulUsed k) x ≡ number))
+      go : (number ≡ 0) ⊎ ((u : ℕ) × (mem eqb u us ≡ true) × (mostCommon u vs ≡ number)) → (number ≡ 0) ⊎ ((x : Rows k i j) × Unmasked i (x .at) × (counted (usefulUsed k) x ≡ number))
       go (inl z) = inl z
       go (inr (u, p, e)) = over u p e (best-attained eqb eqb-self eqb-true (λ (v : ℕ). ones (bitAnd u v)) vs)
 
-  pub pair-number : best (λ (u : ℕ). mostCommon u vs) (taskUseful rs ls (length i) 0) ≡ pairNumber k i j
-  pair-number = most-unique (usefulUsed k) k i j number (pairNumber k i j) (record { bound = bound; attained = attained }) (most-is (usefulUsed k) k i j)
+  pub pair-number : best (λ (u : ℕ). mostCommon u vs) (taskUseful (within set rs) ls (length i) 0) ≡ pairNumber k i j
+  pair-number = most-unique (usefulUsed k) k i j (Unmasked i) number (pairNumber k i j) (record { bound = bound; attained = attained }) (pair-is k i j)

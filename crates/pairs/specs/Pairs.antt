@@ -7,7 +7,7 @@ use lib.Dec.{eqb}
 use lib.ListN.{length, getD, take, drop}
 use lib.Bits.{bitAnd}
 use lib.Count.{ones}
-use Rattle.cache.specs.Sets.{useful, used, bits}
+use Rattle.cache.specs.Sets.{useful, used, bits, inSet}
 use Rattle.model.specs.Lists.{mem, best}
 
 -- the used set of a row, and the useful set of a reaching and a live row
@@ -33,6 +33,10 @@ rowUseful r ls = map (usefulSet r) ls
 abbrev pub blockUseful : List (List ℕ) → List (List ℕ) → List ℕ
 blockUseful [] ls = []
 blockUseful (r ∷ rs) ls = rowUseful r ls ++ blockUseful rs ls
+
+-- the rows of the blocks of a set: none of any other block
+abbrev pub within : ℕ → (ℕ → List (List ℕ)) → ℕ → List (List ℕ)
+within set rows b = cond (inSet set b) (rows b) []
 
 -- the useful sets of `left` blocks from b on, given the reaching and the live rows of each block
 abbrev pub taskUseful : (ℕ → List (List ℕ)) → (ℕ → List (List ℕ)) → ℕ → ℕ → List ℕ

@@ -6,7 +6,7 @@ ghost use lib.Count.{ones};
 ghost use lib.ListN.{length};
 ghost use Rattle.rows.specs.Rows.{Width, rowsOf};
 ghost use Rattle.gather.specs.Memory.{Memory, heldRows};
-ghost use Rattle.pairs.specs.Pairs.{mostCommon, rowUseful, blockUseful, taskUseful, UsedSets, Met, Absorbed};
+ghost use Rattle.pairs.specs.Pairs.{mostCommon, rowUseful, blockUseful, within, taskUseful, UsedSets, Met, Absorbed};
 use cache::sets::common;
 use cache::sets::useful;
 
@@ -128,10 +128,12 @@ fn meet_block(
     }
 }
 
-// The useful sets of a task are met by the used sets of each task; `reached` and `lived` tell how many rows, of w numbers each, a block has.
+// The useful sets of the unmasked blocks of a task are met by the used sets of each task; `reached` and `lived` tell how many rows, of w numbers
+// each, a block has.
 pub fn meet_task(
     w: usize,
     blocks: usize,
+    unmasked: u32,
     reaching: &[u16],
     reached: &[usize],
     live: &[u16],
@@ -143,24 +145,26 @@ pub fn meet_task(
 )
     requires { ⌜ (blocks ≤ 24) × Memory w (now reaching) (now reached) × Memory w (now live) (now lived)
         × UsedSets (now used) (now counts) tasks × (length (now numbers) ≡ 8) ⌝ }
-    ensures { λ _. ⌜ Met (taskUseful (heldRows w (now (reaching .entry)) (now (reached .entry))) (heldRows w (now (live .entry)) (now (lived .entry))) blocks 0)
+    ensures { λ _. ⌜ Met (taskUseful (within unmasked (heldRows w (now (reaching .entry)) (now (reached .entry)))) (heldRows w (now (live .entry)) (now (lived .entry))) blocks 0)
         (now (used .entry)) (now (counts .entry)) tasks (now (numbers .entry)) (now (numbers .exit)) ⌝ }
 {
     let mut met = [0u32; 1024];
     let part = 32 * w;
     for b in 0..blocks {
-        let at = part * b;
-        meet_block(
-            w,
-            &reaching[at..at + part],
-            reached[b],
-            &live[at..at + part],
-            lived[b],
-            used,
-            counts,
-            tasks,
-            &mut met,
-            numbers,
-        );
+        if unmasked & (1 << b) != 0 {
+            let at = part * b;
+            meet_block(
+                w,
+                &reaching[at..at + part],
+                reached[b],
+                &live[at..at + part],
+                lived[b],
+                used,
+                counts,
+                tasks,
+                &mut met,
+                numbers,
+            );
+        }
     }
 }

@@ -2,6 +2,7 @@
 ghost use Prim.Native.Nat.{_<_};
 use example_files::APART;
 use example_files::EIGHT;
+use example_files::MASKED;
 use example_files::ONE;
 use example_files::SIX_FORKS_OF_TASK_1;
 use example_files::WIDE;
@@ -48,7 +49,15 @@ fn show_accepted() {
     show(b"# eight tasks\n", &EIGHT);
 }
 
+// Files with masked blocks.
+fn show_masked() {
+    show_changed(b"# E, byte 18 = 01: task 0 masked\n", 18, 0x01);
+    show_changed(b"# E, byte 28 = 01: task 1 masked\n", 28, 0x01);
+    show(b"# three blocks, the second masked\n", &MASKED);
+}
+
 fn main() {
     show_refused();
     show_accepted();
+    show_masked();
 }

@@ -4,25 +4,26 @@ use mathlib.Core.Path.{_≡_, sym, ap, ap₂, _∙_}
 use mathlib.Core.Bool.{Bool, true, false}
 use mathlib.Core.List.{List}
 use Prim.Native.Nat.{ℕ}
+use borrow.Author.Tests.{not-false}
 use Rattle.cache.specs.declared.blocks.CacheShape.{CacheShape}
 use Rattle.project.specs.declared.answers.Check.{Check}
 use Rattle.project.specs.declared.answers.Check.the-variants.{Passed}
 use Rattle.project.specs.declared.answers.Check.the-variants.{Refused as Failed}
 use Rattle.project.specs.declared.answers.Reading.the-variants.{Accepted, Refused as Unread}
-use Rattle.project.specs.File.{cacheBlocks, taskCount}
-use Rattle.project.specs.Checklist.{andThen, verdictOf}
+use Rattle.project.specs.File.{taskCount}
+use Rattle.project.specs.Checklist.{noTask, andThen}
 use Rattle.project.specs.Reading.{fileChecks, fileCheck, readingOf}
 use Rattle.project.specs.Bodies.{accepted}
 use Rattle.project.specs.Tasks.{tasksOf, fileShape}
 use Rattle.project.proofs.Checklists.{verdict-append}
-use Rattle.project.proofs.Accepted.{accepted-passed}
+use Rattle.project.proofs.Accepted.{unless-passed, accepted-passed}
 use Rattle.reader.proofs.TaskBodies.{refused-check}
-use Rattle.sheet.specs.Parsed.{parse, keptSheet, completeAll}
+use Rattle.sheet.specs.Parsed.{parse, keptSheet, completeAll, unmaskedAll}
 use Rattle.replay.specs.declared.Replaying.the-variants.{Counted, Refused}
-use Rattle.replay.specs.Replay.{runIn, sheetChecks, replayCheck, undisturbedIn, disturbedIn, pickReplaying, replayingOf, Passed12, Passed13}
+use Rattle.replay.specs.Replay.{runIn, test12, test13, test16, sheetChecks, sheetCheck, replayCheck, undisturbedIn, disturbedIn, pickReplaying, replayingOf, Passed12, Passed13}
 
 -- the checks of the file, and those on the sheet
-pub replay-parts : (s sheet : List ℕ) → replayCheck s sheet ≡ andThen (fileCheck s) (verdictOf (sheetChecks s sheet))
+pub replay-parts : (s sheet : List ℕ) → replayCheck s sheet ≡ andThen (fileCheck s) (sheetCheck s sheet)
 replay-parts s sheet = verdict-append (fileChecks s) (sheetChecks s sheet)
 
 -- the answer by what the checks say
@@ -33,30 +34,67 @@ answer-by s sheet r e = ap (λ (c : Check). pickReplaying c (undisturbedIn s (ru
 pub call-refused : (s sheet : List ℕ) {c a : ℕ} → readingOf s ≡ Unread c a → Refused c a ≡ replayingOf s sheet
 call-refused s sheet {c} {a} e = sym (answer-by s sheet (Failed c a) (replay-parts s sheet ∙ rw (refused-check s e)))
 
--- an accepted file: t is its number of tasks, b says whether the sheet keeps the rules, and d whether all paths are complete
-module _ (s sheet : List ℕ) {n u t : ℕ} (e : readingOf s ≡ Accepted n u) (et : t ≡ u) {b : Bool} (eb : b ≡ keptSheet (parse t sheet)) where
-  file-passed : fileCheck s ≡ Passed
-  file-passed = accepted-passed s n u e .0
+-- ---- the checks on the sheet: b says whether it keeps the rules, d whether all paths are complete, m whether it avoids masked blocks
 
+module _ (s sheet : List ℕ) {t : ℕ} {b : Bool} (file : accepted (readingOf s) ≡ true) (et : t ≡ taskCount s) (eb : b ≡ keptSheet (parse t sheet)) where
   kept : keptSheet (parse (taskCount s) sheet) ≡ b
-  kept = sym (eb ∙ ap (λ (k : ℕ). keptSheet (parse k sheet)) (et ∙ accepted-passed s n u e .2))
+  kept = sym (eb ∙ ap (λ (k : ℕ). keptSheet (parse k sheet)) et)
 
-  pub call-12 : b ≡ false → Refused 12 255 ≡ replayingOf s sheet
-  call-12 q = sym (answer-by s sheet (Failed 12 255) (replay-parts s sheet ∙ rw (file-passed, kept, q)))
-
-  shape-of : n ≡ cacheBlocks s → _≡_ {A = CacheShape} (record { blocks = n }) (fileShape s)
-  shape-of q = rw q
+  pub sheet-12 : b ≡ false → Failed 12 255 ≡ sheetCheck s sheet
+  sheet-12 q = sym (rw (kept, q))
 
   pub passed-12 : b ≡ true → Passed12 s sheet
-  passed-12 q = record { file = ap accepted e; kept = kept ∙ q }
+  passed-12 q = record { file = file; kept = kept ∙ q }
 
   module _ {d : Bool} (q : b ≡ true) (ed : d ≡ completeAll (tasksOf s) (runIn s sheet)) where
-    pub call-13 : d ≡ false → Refused 13 255 ≡ replayingOf s sheet
-    call-13 g = sym (answer-by s sheet (Failed 13 255) (replay-parts s sheet ∙ rw (file-passed, kept, q, ← ed, g)))
+    pub sheet-13 : d ≡ false → Failed 13 255 ≡ sheetCheck s sheet
+    sheet-13 g = sym (rw (kept, q, ← ed, g))
 
-    pub passed-13 : d ≡ true → Passed13 s sheet (record { blocks = n })
-    passed-13 g = record { rules = passed-12 q; complete = sym ed ∙ g; blocks = shape-of (accepted-passed s n u e .1) }
+    pub passed-13 : d ≡ true → Passed13 s sheet
+    passed-13 g = record { rules = passed-12 q; complete = sym ed ∙ g }
 
-    pub call-counted : {x y : ℕ} → d ≡ true → x ≡ undisturbedIn s (runIn s sheet) → y ≡ disturbedIn s (runIn s sheet) → Counted x y ≡ replayingOf s sheet
-    call-counted g ex ey =
-        ap₂ (λ (i j : ℕ). Counted i j) ex ey ∙ sym (answer-by s sheet Passed (replay-parts s sheet ∙ rw (file-passed, kept, q, ← ed, g)))
+    module _ {m : Bool} (g : d ≡ true) (em : m ≡ unmaskedAll (tasksOf s) (runIn s sheet)) where
+      pub sheet-16 : m ≡ false → Failed 16 255 ≡ sheetCheck s sheet
+      sheet-16 x = sym (rw (kept, q, ← ed, g, ← em, x))
+
+      pub sheet-passed : m ≡ true → Passed ≡ sheetCheck s sheet
+      sheet-passed x = sym (rw (kept, q, ← ed, g, ← em, x))
+
+-- what passing the checks on the sheet says
+pub record SheetPassed (s sheet : List ℕ) : Type 0 where
+  pub kept : keptSheet (parse (taskCount s) sheet) ≡ true
+  pub complete : completeAll (tasksOf s) (runIn s sheet) ≡ true
+  pub unmasked : unmaskedAll (tasksOf s) (runIn s sheet) ≡ true
+
+pub passed-sheet : (s sheet : List ℕ) → sheetCheck s sheet ≡ Passed → SheetPassed s sheet
+passed-sheet s sheet e =
+    let (e12, r) = unless-passed 12 noTask (test12 s sheet) _ e in
+    let (e13, q) = unless-passed 13 noTask (test13 s sheet) _ r in
+    let e16 = unless-passed 16 noTask (test16 s sheet) Passed q .0 in
+    record {
+      kept = not-false (keptSheet (parse (taskCount s) sheet)) e12;
+      complete = not-false (completeAll (tasksOf s) (runIn s sheet)) e13;
+      unmasked = not-false (unmaskedAll (tasksOf s) (runIn s sheet)) e16;
+    }
+
+-- ---- the answer for an accepted file
+
+module _ (s sheet : List ℕ) {n u : ℕ} (e : readingOf s ≡ Accepted n u) where
+  checks : replayCheck s sheet ≡ sheetCheck s sheet
+  checks = replay-parts s sheet ∙ ap (λ (c : Check). andThen c (sheetCheck s sheet)) (accepted-passed s n u e .0)
+
+  pub tasks-of : {t : ℕ} → t ≡ u → t ≡ taskCount s
+  tasks-of q = q ∙ accepted-passed s n u e .2
+
+  pub shape-of : _≡_ {A = CacheShape} (record { blocks = n }) (fileShape s)
+  shape-of = rw (accepted-passed s n u e .1)
+
+  pub call-sheet : {c a : ℕ} → sheetCheck s sheet ≡ Failed c a → Refused c a ≡ replayingOf s sheet
+  call-sheet {c} {a} q = sym (answer-by s sheet (Failed c a) (checks ∙ q))
+
+  module _ (q : sheetCheck s sheet ≡ Passed) where
+    pub ready : Passed13 s sheet
+    ready = let p = passed-sheet s sheet q in record { rules = record { file = ap accepted e; kept = p .kept }; complete = p .complete }
+
+    pub call-counted : {x y : ℕ} → x ≡ undisturbedIn s (runIn s sheet) → y ≡ disturbedIn s (runIn s sheet) → Counted x y ≡ replayingOf s sheet
+    call-counted ex ey = ap₂ (λ (i j : ℕ). Counted i j) ex ey ∙ sym (answer-by s sheet Passed (checks ∙ q))

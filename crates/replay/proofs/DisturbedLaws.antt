@@ -22,10 +22,10 @@ use Rattle.body.specs.Layout.{InBounds}
 use Rattle.body.proofs.BlockParts.{all-take, all-drop}
 use Rattle.body.proofs.WalksParts.{part-is}
 use Rattle.project.specs.File.{cacheBlocks, taskCount}
-use Rattle.project.specs.Tasks.{tasksOf, fileCache}
+use Rattle.project.specs.Tasks.{tasksOf, fileShape, fileCache}
 use Rattle.reader.proofs.TaskBodies.{TaskBody, task-body, task-bounds}
 use Rattle.sheet.specs.Sheet.{SheetRun, preemptionNumbers, PreemptionInRules, InRules}
-use Rattle.sheet.specs.Parsed.{leadsToEnd, completePath, completeEach}
+use Rattle.sheet.specs.Parsed.{leadsToEnd, completePath, eachPasses, completeBy}
 use Rattle.sheet.proofs.Places.{SheetPlaces, path-part, PreemptionPlaces, preemption-places, none-left}
 use Rattle.runs.specs.Running.{rowCount, ownPath}
 use Rattle.replay.specs.Replay.{runIn, undisturbedIn, disturbedIn, Passed13}
@@ -58,7 +58,7 @@ pub record RunLeft (s sheet : List ℕ) (shape : CacheShape) (cells : List ℕ) 
   pub left : List Preemption
   pub numbers-at : drop at sheet ≡ preemptionNumbers left
   pub rules : Each (PreemptionInRules (taskCount s) (runIn s sheet .p) (length (runIn s sheet .path))) left
-  pub complete : completeEach (tasksOf s) left ≡ true
+  pub complete : eachPasses (completeBy (tasksOf s)) left ≡ true
   pub rises : Rises i left
   pub in-path : i ≤ length (runIn s sheet .path)
   pub few : misses ≤ 16 * i
@@ -73,7 +73,7 @@ pub record RunNext (s sheet : List ℕ) (shape : CacheShape) (cells : List ℕ) 
   pub low : i ≤ suc (first .point)
   pub here : completePath (task (tasksOf s) (first .by)) (first .path) ≡ true
   pub rules : Each (PreemptionInRules (taskCount s) (runIn s sheet .p) (length (runIn s sheet .path))) rest
-  pub complete : completeEach (tasksOf s) rest ≡ true
+  pub complete : eachPasses (completeBy (tasksOf s)) rest ≡ true
   pub rises : Rises (suc (first .point)) rest
   pub same : segments (shaped 32 shape) (tasksOf s) (task (tasksOf s) (runIn s sheet .p)) (first ∷ rest) i (rowCount cells misses) (drop i (runIn s sheet .path)) ≡ whole s sheet shape
 
@@ -100,7 +100,7 @@ pub record ByRun (s sheet : List ℕ) (at y m : ℕ) : Type 0 where
   pub below : All (λ (b : ℕ). b < length (task (tasksOf s) y)) (byPart sheet at m)
   pub few : length (byPart sheet at m) ≤ 64
 
-module _ (s sheet : List ℕ) (shape : CacheShape) (h : Passed13 s sheet shape) where
+module _ (s sheet : List ℕ) (shape : CacheShape) (h : Passed13 s sheet) (blocks : shape ≡ fileShape s) where
   abbrev k : Cache
   k = shaped 32 shape
 
@@ -117,7 +117,7 @@ module _ (s sheet : List ℕ) (shape : CacheShape) (h : Passed13 s sheet shape) 
   facts = sheet-facts s sheet (h .rules)
 
   own-complete : completePath tp (r .path) ≡ true
-  own-complete = both-left (completePath tp (r .path)) (completeEach ts (r .preemptions)) (h .complete)
+  own-complete = both-left (completePath tp (r .path)) (eachPasses (completeBy ts) (r .preemptions)) (h .complete)
 
   own-task : {p : ℕ} → p ≡ getD sheet 0 0 → task ts p ≡ tp
   own-task e = ap (task ts) (e ∙ facts .places .task-at)
@@ -154,7 +154,7 @@ module _ (s sheet : List ℕ) (shape : CacheShape) (h : Passed13 s sheet shape) 
       → segments k ts tp xs 0 (atFirst k) (r .path) .count ≡ countAtEnd (fileCache s) ts tp (r .path) xs
   whole-count xs f e =
       ap (λ (a : RowCount). a .count) (segments-all k ts tp xs (atFirst k) (r .path) f e)
-      ∙ ap (λ (x : CacheShape). countAtEnd (shaped 32 x) ts tp (r .path) xs) (h .blocks)
+      ∙ ap (λ (x : CacheShape). countAtEnd (shaped 32 x) ts tp (r .path) xs) blocks
       ∙ count-width (cacheBlocks s) 32 blocks-low blocks-high ts tp (r .path) xs
 
   pub run-start : {row : List ℕ} {long : ℕ} → row ≡ emptyRow k → long ≡ getD sheet 1 0 → RunLeft s sheet shape row 0 0 (3 + long)
@@ -162,7 +162,7 @@ module _ (s sheet : List ℕ) (shape : CacheShape) (h : Passed13 s sheet shape) 
     left = r .preemptions;
     numbers-at = ap (λ l. drop (3 + l) sheet) (e ∙ facts .places .long-at) ∙ facts .places .list-at;
     rules = facts .rules .each;
-    complete = both-right (completePath tp (r .path)) (completeEach ts (r .preemptions)) (h .complete);
+    complete = both-right (completePath tp (r .path)) (eachPasses (completeBy ts) (r .preemptions)) (h .complete);
     rises = rises-all (r .preemptions) (facts .rules .rising);
     in-path = omega arith;
     few = omega arith;
@@ -174,7 +174,7 @@ module _ (s sheet : List ℕ) (shape : CacheShape) (h : Passed13 s sheet shape) 
     run-next l = go (x .left) (x .numbers-at) (x .rules) (x .complete) (x .rises) (x .same)
       where
         go : (xs : List Preemption) → drop at sheet ≡ preemptionNumbers xs → Each (PreemptionInRules (taskCount s) (r .p) (length (r .path))) xs
-            → completeEach ts xs ≡ true → Rises i xs → segments k ts tp xs i (rowCount cells misses) (drop i (r .path)) ≡ whole s sheet shape
+            → eachPasses (completeBy ts) xs ≡ true → Rises i xs → segments k ts tp xs i (rowCount cells misses) (drop i (r .path)) ≡ whole s sheet shape
             → RunNext s sheet shape cells misses i at
         go [] d rules c rises same = absurd (omega (arith, ap length d, length-drop at sheet))
         go (y ∷ ys) d rules c rises same = record {

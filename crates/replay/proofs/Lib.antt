@@ -1,4 +1,5 @@
 pub mod SheetLaws
+pub mod MaskLaws
 pub mod DisturbedLaws
 pub mod Replays
 pub mod CallLaws

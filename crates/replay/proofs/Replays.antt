@@ -1,5 +1,5 @@
 -- What Replay answers is the verdict of the definitions; every disturbed run of an accepted file that a sheet can hold has its answer; demand 3 of the answers.
--- The idea: the checks of the file are the reader's; checks 12 and 13 are the tests of the sheet, whose run is a disturbed run.
+-- The idea: the checks of the file are the reader's; checks 12, 13 and 16 are the tests of the sheet, whose run is a disturbed run.
 use mathlib.Core.Path.{_≡_, refl, sym, ap, subst, _∙_}
 use mathlib.Core.Logic.{_↔_}
 use mathlib.Core.Bool.{Bool, true, false, not, true≢false, false≢true}
@@ -7,7 +7,7 @@ use mathlib.Core.List.{List, [], _∷_}
 use Prim.Native.Nat.{ℕ, _+_, _≤_, _<_}
 use native.Mathlib.Omega.{arith}
 use lib.ListN.{length}
-use borrow.Author.Tests.{not-true, not-false}
+use borrow.Author.Tests.{not-true}
 use Rattle.cache.specs.References.{All}
 use Rattle.model.specs.Lists.{Each}
 use Rattle.model.specs.Tasks.{task}
@@ -20,25 +20,25 @@ use Rattle.project.specs.declared.answers.Check.the-variants.{Passed}
 use Rattle.project.specs.declared.answers.Check.the-variants.{Refused as Failed}
 use Rattle.project.specs.declared.answers.Reading.the-variants.{Accepted}
 use Rattle.project.specs.File.{cacheBlocks, taskCount}
-use Rattle.project.specs.Checklist.{noTask, numbers, Verdict, verdictOf, Agreeing}
+use Rattle.project.specs.Checklist.{numbers, Verdict, Agreeing}
 use Rattle.project.specs.Reading.{fileChecks, fileCheck, readingOf}
 use Rattle.project.specs.Bodies.{accepted}
 use Rattle.project.specs.Tasks.{tasksOf, fileCache}
 use Rattle.project.proofs.Checklists.{verdict-exact, agreeing-append}
 use Rattle.project.proofs.Verdicts.{file-agreeing}
-use Rattle.project.proofs.Accepted.{unless-passed, then-passed, passing, accepted-passed}
+use Rattle.project.proofs.Accepted.{then-passed, passing, accepted-passed}
 use Rattle.project.proofs.FileRules.{file-demand-3}
 use Rattle.reader.proofs.TaskBodies.{reading, passing-accepted, tasks-long, task-bounds}
-use Rattle.sheet.specs.Sheet.{preemptionNumbers, sheetNumbers, Fault12, Fault13, Fits, sheetRun}
-use Rattle.sheet.specs.Parsed.{Parsed, broken, parsed, parse, keptSheet, runOf, completePath, completeAll}
+use Rattle.sheet.specs.Sheet.{preemptionNumbers, sheetNumbers, Fault12, Fault13, Fault16, Fits, sheetRun}
+use Rattle.sheet.specs.Parsed.{Parsed, broken, parsed, parse, keptSheet, runOf, completePath}
 use Rattle.sheet.proofs.Parsing.{parsed-rules, broken-fault, fault-broken}
-use Rattle.sheet.proofs.CompletePaths.{complete-exact, all-complete}
-use Rattle.sheet.proofs.SheetRuns.{disturbedRun, run-sheet, incomplete-fault, fault-incomplete}
+use Rattle.sheet.proofs.CompletePaths.{complete-exact}
+use Rattle.sheet.proofs.SheetRuns.{acceptedRun, run-sheet, incomplete-exact, masked-exact}
 use Rattle.replay.specs.declared.Replaying.{Replaying}
 use Rattle.replay.specs.declared.Replaying.the-variants.{Counted, Refused}
-use Rattle.replay.specs.Replay.{runIn, test12, test13, sheetChecks, replayChecks, replayCheck, undisturbedIn, disturbedIn, pickReplaying, replayingOf}
+use Rattle.replay.specs.Replay.{runIn, test12, test13, test16, sheetChecks, sheetCheck, replayChecks, replayCheck, undisturbedIn, disturbedIn, pickReplaying, replayingOf}
 use Rattle.replay.specs.ReplayVerdict.{Replayed, ReplayVerdict}
-use Rattle.replay.proofs.CallLaws.{replay-parts, answer-by}
+use Rattle.replay.proofs.CallLaws.{replay-parts, answer-by, SheetPassed, passed-sheet}
 use Rattle.replay.proofs.DisturbedLaws.{complete-blocks}
 
 -- ---- the verdict
@@ -64,20 +64,18 @@ module _ (s sheet : List ℕ) where
     is-parsed = rw (tasks-long s) (parsed-by _ k)
 
     exact13 : (test13 s sheet ≡ true) ↔ Fault13 (tasksOf s) sheet
-    exact13 = (
-      λ e. incomplete-fault (tasksOf s) sheet (runIn s sheet) is-parsed (not-true (completeAll (tasksOf s) (runIn s sheet)) e),
-      λ f. ap not (fault-incomplete (tasksOf s) sheet (runIn s sheet) is-parsed f),
-    )
+    exact13 = incomplete-exact (tasksOf s) sheet (runIn s sheet) is-parsed
 
-    its-run : completeAll (tasksOf s) (runIn s sheet) ≡ true → Replayed s sheet (undisturbedIn s (runIn s sheet)) (disturbedIn s (runIn s sheet))
-    its-run e =
-        let p = parsed-rules (length (tasksOf s)) sheet (runIn s sheet) is-parsed in
-        record {
-          run = disturbedRun (tasksOf s) (runIn s sheet) (p .rules) (all-complete (tasksOf s) (runIn s sheet) .0 e);
-          sheet-of = p .numbers;
-          undisturbed = refl;
-          disturbed = refl;
-        }
+    exact16 : (test16 s sheet ≡ true) ↔ Fault16 (tasksOf s) sheet
+    exact16 = masked-exact (tasksOf s) sheet (runIn s sheet) is-parsed
+
+  its-run : SheetPassed s sheet → Replayed s sheet (undisturbedIn s (runIn s sheet)) (disturbedIn s (runIn s sheet))
+  its-run p = record {
+    run = acceptedRun (tasksOf s) sheet (runIn s sheet) (is-parsed (p .kept)) (p .complete) (p .unmasked);
+    sheet-of = parsed-rules (length (tasksOf s)) sheet (runIn s sheet) (is-parsed (p .kept)) .numbers;
+    undisturbed = refl;
+    disturbed = refl;
+  }
 
   kept-by : (Fault12 (taskCount s) sheet → ⊥) → keptSheet (parse (taskCount s) sheet) ≡ true
   kept-by none = go (keptSheet (parse (taskCount s) sheet)) refl
@@ -87,22 +85,18 @@ module _ (s sheet : List ℕ) where
       go false e = absurd (none (broken-fault (taskCount s) sheet (broken-by _ e)))
 
   replay-agreeing : All (λ (x : ℕ). x < 256) s → Agreeing (replayChecks s sheet)
-  replay-agreeing h = agreeing-append (fileChecks s) (sheetChecks s sheet) (file-agreeing s h) (λ all. (exact12, λ p12. (exact13 (kept-by p12), λ p13. tt)))
+  replay-agreeing h = agreeing-append (fileChecks s) (sheetChecks s sheet) (file-agreeing s h) (λ all. (exact12, λ p12. (exact13 (kept-by p12), λ p13. (exact16 (kept-by p12), λ p16. tt))))
 
   -- what Replay answers is the verdict, for every list of bytes and every sheet
   pub replay-verdict : All (λ (x : ℕ). x < 256) s → ReplayVerdict s sheet (replayingOf s sheet)
   replay-verdict h = go (replayCheck s sheet) refl (verdict-exact (replayChecks s sheet) (replay-agreeing h))
     where
       go : (r : Check) → replayCheck s sheet ≡ r → Verdict (replayChecks s sheet) r → ReplayVerdict s sheet (pickReplaying r (undisturbedIn s (runIn s sheet)) (disturbedIn s (runIn s sheet)))
-      go Passed e v =
-          let (q, f) = then-passed (fileCheck s) (verdictOf (sheetChecks s sheet)) (sym (replay-parts s sheet) ∙ e) in
-          let (k, g) = unless-passed 12 noTask (test12 s sheet) _ f in
-          let c = unless-passed 13 noTask (test13 s sheet) Passed g .0 in
-          (v, its-run (not-false (keptSheet (parse (taskCount s) sheet)) k) (not-false (completeAll (tasksOf s) (runIn s sheet)) c))
+      go Passed e v = (v, its-run (passed-sheet s sheet (then-passed (fileCheck s) (sheetCheck s sheet) (sym (replay-parts s sheet) ∙ e) .1)))
       go (Failed c a) e v = v
 
-  -- "Replay checks 2 to 10, 12, 13."
-  pub replay-order : numbers (replayChecks s sheet) ≡ 2 ∷ 3 ∷ 4 ∷ 5 ∷ 6 ∷ 7 ∷ 8 ∷ 9 ∷ 10 ∷ 12 ∷ 13 ∷ []
+  -- "Replay checks 2 to 10, 12, 13.", and then 16
+  pub replay-order : numbers (replayChecks s sheet) ≡ 2 ∷ 3 ∷ 4 ∷ 5 ∷ 6 ∷ 7 ∷ 8 ∷ 9 ∷ 10 ∷ 12 ∷ 13 ∷ 16 ∷ []
   replay-order = refl
 
 -- ---- a counted run, from the answer
@@ -129,7 +123,7 @@ pub record ReplayBounded (s sheet : List ℕ) (u d : ℕ) : Type 0 where
 pub replay-bounded : (s : List ℕ) → All (λ (x : ℕ). x < 256) s → (sheet : List ℕ) (u d : ℕ) → replayingOf s sheet ≡ Counted u d → ReplayBounded s sheet u d
 replay-bounded s h sheet u d e =
     let x = replayed s h sheet u d e in
-    let b = file-demand-3 s h (cacheBlocks s) (taskCount s) (accepted-file s sheet u d e) .0 (x .run) in
+    let b = file-demand-3 s h (cacheBlocks s) (taskCount s) (accepted-file s sheet u d e) .bounds (x .run) in
     record { is = x; lower = omega (arith, x .undisturbed, x .disturbed, b .0); upper = omega (arith, x .undisturbed, x .disturbed, b .1) }
 
 -- ---- a run of an accepted file that a sheet can hold: the answer, and that its numbers are of two bytes
@@ -140,7 +134,7 @@ run-replayed s h run f =
     let o = run-sheet (tasksOf s) run f in
     let sheet = sheetNumbers (sheetRun (tasksOf s) run) in
     let q : parse (taskCount s) sheet ≡ parsed (sheetRun (tasksOf s) run) = rw (tasks-long s) at (o .parses) in
-    answer-by s sheet Passed (replay-parts s sheet ∙ rw (accepted-passed s (cacheBlocks s) (taskCount s) (reading s h) .0, q, o .complete)) ∙ rw q
+    answer-by s sheet Passed (replay-parts s sheet ∙ rw (accepted-passed s (cacheBlocks s) (taskCount s) (reading s h) .0, q, o .complete, o .unmasked)) ∙ rw q
 
 module _ (s : List ℕ) (h : accepted (readingOf s) ≡ true) where
   below : (j : ℕ) (path : List ℕ) → j < length (tasksOf s) → completePath (task (tasksOf s) j) path ≡ true → All (λ (x : ℕ). x < 65536) path

@@ -1,5 +1,5 @@
--- Check 13 in the code's words: where the parts of a sheet and of a file stand, and a turn of the loop over the preemptions.
--- The idea: the paths of what is left of the list are complete just where those of the whole list are.
+-- Check 13 in the code's words: where the parts of a sheet stand, a turn of a loop over the preemptions, for any test of them, and the paths.
+-- The idea: what is left of the list passes the test just where the whole list does.
 use mathlib.Core.Path.{_≡_, refl, sym, ap, ap₂, _∙_}
 use mathlib.Core.Bool.{Bool, true, false, _&&_}
 use mathlib.Core.List.{List, _∷_}
@@ -13,7 +13,7 @@ use Rattle.model.specs.Runs.{Preemption}
 use Rattle.body.proofs.WalksParts.{part-is}
 use Rattle.project.specs.File.{taskCount}
 use Rattle.sheet.specs.Sheet.{SheetRun, preemptionNumbers, PreemptionInRules, InRules}
-use Rattle.sheet.specs.Parsed.{completePath, completeEach, completeAll}
+use Rattle.sheet.specs.Parsed.{completePath, eachPasses, completeBy, completeAll}
 use Rattle.sheet.proofs.Parsing.{Parses, kept-parses}
 use Rattle.sheet.proofs.Places.{SheetPlaces, sheet-places, PreemptionPlaces, NextPreemption, next-preemption, none-left}
 use Rattle.replay.specs.Replay.{runIn, Passed12}
@@ -48,61 +48,78 @@ module _ (s sheet : List ℕ) (f : SheetFacts s sheet) {y k : ℕ} (ey : y ≡ g
     own-judged = sym (e ∙ ap₂ (λ j. completePath (task ts j)) (ey ∙ f .places .task-at) own-path)
 
     pub all-broken : b ≡ false → false ≡ completeAll ts (runIn s sheet)
-    all-broken q = ap (λ x. x && completeEach ts (runIn s sheet .preemptions)) (sym (own-judged ∙ q))
+    all-broken q = ap (λ x. x && eachPasses (completeBy ts) (runIn s sheet .preemptions)) (sym (own-judged ∙ q))
 
-    pub all-by-each : {d : Bool} → b ≡ true → d ≡ completeEach ts (runIn s sheet .preemptions) → d ≡ completeAll ts (runIn s sheet)
-    all-by-each q g = g ∙ ap (λ x. x && completeEach ts (runIn s sheet .preemptions)) (sym (own-judged ∙ q))
+    pub all-by-each : {d : Bool} → b ≡ true → d ≡ eachPasses (completeBy ts) (runIn s sheet .preemptions) → d ≡ completeAll ts (runIn s sheet)
+    all-by-each q g = g ∙ ap (λ x. x && eachPasses (completeBy ts) (runIn s sheet .preemptions)) (sym (own-judged ∙ q))
 
 -- ---- the preemptions that are left from `at` on
 
--- their paths are complete just where those of all are
-pub record EachLeft (ts : List Task) (t p long : ℕ) (sheet : List ℕ) (all : List Preemption) (at : ℕ) : Type 0 where
+-- a preemption of the run keeps the rules
+abbrev RuleIn : List ℕ → List ℕ → Preemption → Type 0
+RuleIn s sheet = PreemptionInRules (taskCount s) (runIn s sheet .p) (length (runIn s sheet .path))
+
+-- they pass the test just where all do
+pub record EachLeft (test : Preemption → Bool) (s sheet : List ℕ) (at : ℕ) : Type 0 where
   pub left : List Preemption
   pub numbers-at : drop at sheet ≡ preemptionNumbers left
-  pub rules : Each (PreemptionInRules t p long) left
-  pub same : completeEach ts left ≡ completeEach ts all
+  pub rules : Each (RuleIn s sheet) left
+  pub same : eachPasses test left ≡ eachPasses test (runIn s sheet .preemptions)
 
 -- the next of them
-pub record NextLeft (ts : List Task) (t p long : ℕ) (sheet : List ℕ) (all : List Preemption) (at : ℕ) : Type 0 where
+pub record NextLeft (test : Preemption → Bool) (s sheet : List ℕ) (at : ℕ) : Type 0 where
   pub first : Preemption
   pub rest : List Preemption
   pub places : PreemptionPlaces sheet at first rest
-  pub rule : PreemptionInRules t p long first
-  pub rules : Each (PreemptionInRules t p long) rest
-  pub same : completePath (task ts (first .by)) (first .path) && completeEach ts rest ≡ completeEach ts all
+  pub rule : RuleIn s sheet first
+  pub rules : Each (RuleIn s sheet) rest
+  pub same : test first && eachPasses test rest ≡ eachPasses test (runIn s sheet .preemptions)
 
-module _ (ts : List Task) (t p long : ℕ) (sheet : List ℕ) (all : List Preemption) (at : ℕ) where
-  pub next-left : EachLeft ts t p long sheet all at → at < length sheet → NextLeft ts t p long sheet all at
-  next-left e h = go (e .left) (e .numbers-at) (e .rules) (e .same)
-    where
-      go : (xs : List Preemption) → drop at sheet ≡ preemptionNumbers xs → Each (PreemptionInRules t p long) xs → completeEach ts xs ≡ completeEach ts all
-          → NextLeft ts t p long sheet all at
-      go xs d r q =
-          let n = next-preemption sheet at xs h d in
-          let (first, rest) = (rw (n .same) at r) in
-          record { first = n .first; rest = n .rest; places = n .places; rule = first; rules = rest; same = ap (completeEach ts) (sym (n .same)) ∙ q }
+module _ (test : Preemption → Bool) (s sheet : List ℕ) where
+  -- at first all are left, after the path of k blocks
+  pub each-start : SheetFacts s sheet → {k : ℕ} → k ≡ getD sheet 1 0 → EachLeft test s sheet (3 + k)
+  each-start f e = record {
+    left = runIn s sheet .preemptions;
+    numbers-at = ap (λ k. drop (3 + k) sheet) (e ∙ f .places .long-at) ∙ f .places .list-at;
+    rules = f .rules .each;
+    same = refl;
+  }
 
-  pub each-end : EachLeft ts t p long sheet all at → length sheet ≤ at → true ≡ completeEach ts all
-  each-end e h = ap (completeEach ts) (sym (none-left sheet at (e .left) h (e .numbers-at))) ∙ e .same
+  module _ (at : ℕ) where
+    pub next-left : EachLeft test s sheet at → at < length sheet → NextLeft test s sheet at
+    next-left e h = go (e .left) (e .numbers-at) (e .rules) (e .same)
+      where
+        go : (xs : List Preemption) → drop at sheet ≡ preemptionNumbers xs → Each (RuleIn s sheet) xs → eachPasses test xs ≡ eachPasses test (runIn s sheet .preemptions)
+            → NextLeft test s sheet at
+        go xs d r q =
+            let n = next-preemption sheet at xs h d in
+            let (first, rest) = (rw (n .same) at r) in
+            record { first = n .first; rest = n .rest; places = n .places; rule = first; rules = rest; same = ap (eachPasses test) (sym (n .same)) ∙ q }
 
-  -- where y and k are the numbers of its task and of its path's length
-  module _ (n : NextLeft ts t p long sheet all at) {y k : ℕ} (ey : y ≡ getD sheet (at + 1) 0) (ek : k ≡ getD sheet (at + 2) 0) where
-    pub next-there : y < t
-    next-there = omega (arith, n .places .task-at, n .rule .there)
+    pub each-end : EachLeft test s sheet at → length sheet ≤ at → true ≡ eachPasses test (runIn s sheet .preemptions)
+    each-end e h = ap (eachPasses test) (sym (none-left sheet at (e .left) h (e .numbers-at))) ∙ e .same
 
-    next-path : take (at + 3 + k - (at + 3)) (drop (at + 3) sheet) ≡ n .first .path
-    next-path = part-is sheet refl (ek ∙ n .places .long-at) ∙ n .places .path-at
+    module _ (n : NextLeft test s sheet at) where
+      pub each-broken : test (n .first) ≡ false → false ≡ eachPasses test (runIn s sheet .preemptions)
+      each-broken q = ap (λ x. x && eachPasses test (n .rest)) (sym q) ∙ n .same
 
-    judged : {b : Bool} → b ≡ completePath (task ts y) (take (at + 3 + k - (at + 3)) (drop (at + 3) sheet)) → completePath (task ts (n .first .by)) (n .first .path) ≡ b
-    judged e = sym (e ∙ ap₂ (λ j. completePath (task ts j)) (ey ∙ n .places .task-at) next-path)
+      -- where k is the number of its path's length
+      pub each-on : {k : ℕ} → k ≡ getD sheet (at + 2) 0 → test (n .first) ≡ true → EachLeft test s sheet (at + 3 + k)
+      each-on e q = record {
+        left = n .rest;
+        numbers-at = ap (λ i. drop (at + 3 + i) sheet) (e ∙ n .places .long-at) ∙ n .places .rest-at;
+        rules = n .rules;
+        same = ap (λ x. x && eachPasses test (n .rest)) (sym q) ∙ n .same;
+      }
 
-    pub each-broken : {b : Bool} → b ≡ completePath (task ts y) (take (at + 3 + k - (at + 3)) (drop (at + 3) sheet)) → b ≡ false → false ≡ completeEach ts all
-    each-broken e q = ap (λ x. x && completeEach ts (n .rest)) (sym (judged e ∙ q)) ∙ n .same
+-- ---- the path of the next preemption, where y and k are the numbers of its task and of its length
 
-    pub each-on : {b : Bool} → b ≡ completePath (task ts y) (take (at + 3 + k - (at + 3)) (drop (at + 3) sheet)) → b ≡ true → EachLeft ts t p long sheet all (at + 3 + k)
-    each-on e q = record {
-      left = n .rest;
-      numbers-at = ap (λ i. drop (at + 3 + i) sheet) (ek ∙ n .places .long-at) ∙ n .places .rest-at;
-      rules = n .rules;
-      same = ap (λ x. x && completeEach ts (n .rest)) (sym (judged e ∙ q)) ∙ n .same;
-    }
+module _ (test : Preemption → Bool) (s sheet : List ℕ) (at : ℕ) (n : NextLeft test s sheet at) {y k : ℕ} (ey : y ≡ getD sheet (at + 1) 0) (ek : k ≡ getD sheet (at + 2) 0) where
+  pub next-there : y < taskCount s
+  next-there = omega (arith, n .places .task-at, n .rule .there)
+
+  next-path : take (at + 3 + k - (at + 3)) (drop (at + 3) sheet) ≡ n .first .path
+  next-path = part-is sheet refl (ek ∙ n .places .long-at) ∙ n .places .path-at
+
+  pub next-judged : (ts : List Task) {b : Bool} → b ≡ completePath (task ts y) (take (at + 3 + k - (at + 3)) (drop (at + 3) sheet)) → completeBy ts (n .first) ≡ b
+  next-judged ts e = sym (e ∙ ap₂ (λ j. completePath (task ts j)) (ey ∙ n .places .task-at) next-path)

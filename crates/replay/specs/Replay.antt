@@ -1,9 +1,8 @@
--- Document 01, "Calls" and "Numbers of the checks": Replay. Definitions only.
+-- Document 01, "Calls" and "Numbers of the checks", and document 02, Point 1: Replay. Definitions only.
 use mathlib.Core.Path.{_≡_}
 use mathlib.Core.Bool.{Bool, true, not}
 use mathlib.Core.List.{List, [], _∷_, _++_}
 use Prim.Native.Nat.{ℕ}
-use Rattle.cache.specs.declared.blocks.CacheShape.{CacheShape}
 use Rattle.model.specs.Tasks.{task}
 use Rattle.model.specs.Runs.{countAtEnd}
 use Rattle.project.specs.declared.answers.Check.{Check}
@@ -13,9 +12,9 @@ use Rattle.project.specs.File.{File, taskCount}
 use Rattle.project.specs.Checklist.{Entry, one, noTask, verdictOf}
 use Rattle.project.specs.Reading.{fileChecks, readingOf}
 use Rattle.project.specs.Bodies.{accepted}
-use Rattle.project.specs.Tasks.{tasksOf, fileShape, fileCache}
-use Rattle.sheet.specs.Sheet.{SheetRun, Sheet, Fault12, Fault13}
-use Rattle.sheet.specs.Parsed.{parse, keptSheet, runOf, completeAll}
+use Rattle.project.specs.Tasks.{tasksOf, fileCache}
+use Rattle.sheet.specs.Sheet.{SheetRun, Sheet, Fault12, Fault13, Fault16}
+use Rattle.sheet.specs.Parsed.{parse, keptSheet, runOf, completeAll, unmaskedAll}
 use Rattle.replay.specs.declared.Replaying.{Replaying}
 use Rattle.replay.specs.declared.Replaying.the-variants.{Counted, Refused}
 
@@ -31,14 +30,22 @@ test12 s sheet = not (keptSheet (parse (taskCount s) sheet))
 abbrev pub test13 : File → Sheet → Bool
 test13 s sheet = not (completeAll (tasksOf s) (runIn s sheet))
 
--- the checks on the sheet
+-- check 16: some preemption of the run comes after a masked block
+abbrev pub test16 : File → Sheet → Bool
+test16 s sheet = not (unmaskedAll (tasksOf s) (runIn s sheet))
+
+-- the checks on the sheet; document 02, Point 1: "16, a preemption at a masked position, after 13"
 abbrev pub sheetChecks : File → Sheet → List Entry
 sheetChecks s sheet =
     one 12 noTask (test12 s sheet) (Fault12 (taskCount s) sheet)
     ∷ one 13 noTask (test13 s sheet) (Fault13 (tasksOf s) sheet)
+    ∷ one 16 noTask (test16 s sheet) (Fault16 (tasksOf s) sheet)
     ∷ []
 
--- "Replay checks 2 to 10, 12, 13."
+abbrev pub sheetCheck : File → Sheet → Check
+sheetCheck s sheet = verdictOf (sheetChecks s sheet)
+
+-- "Replay checks 2 to 10, 12, 13.", and then 16
 abbrev pub replayChecks : File → Sheet → List Entry
 replayChecks s sheet = fileChecks s ++ sheetChecks s sheet
 
@@ -67,8 +74,7 @@ pub record Passed12 (s : File) (sheet : Sheet) : Type 0 where
   pub file : accepted (readingOf s) ≡ true
   pub kept : keptSheet (parse (taskCount s) sheet) ≡ true
 
--- checks 2 to 13 pass, and the shape is that of the file's cache
-pub record Passed13 (s : File) (sheet : Sheet) (shape : CacheShape) : Type 0 where
+-- checks 2 to 13 pass
+pub record Passed13 (s : File) (sheet : Sheet) : Type 0 where
   pub rules : Passed12 s sheet
   pub complete : completeAll (tasksOf s) (runIn s sheet) ≡ true
-  pub blocks : shape ≡ fileShape s

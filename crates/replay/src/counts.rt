@@ -36,7 +36,7 @@ fn run_task(
 
 // U: the misses of the run's path from the empty cache.
 pub fn undisturbed(file: &[u8], sheet: &[u16], shape: CacheShape) -> u32
-    requires { ⌜ Passed13 (now file) (now sheet) shape ⌝ }
+    requires { ⌜ Passed13 (now file) (now sheet) × (shape ≡ fileShape (now file)) ⌝ }
     ensures { λ r. ⌜ r ≡ undisturbedIn (now (file .entry)) (runIn (now (file .entry)) (now (sheet .entry))) ⌝ }
 {
     let end = 2 + count(sheet[1]);
@@ -49,7 +49,7 @@ pub fn undisturbed(file: &[u8], sheet: &[u16], shape: CacheShape) -> u32
 // D: the same with the preemptions. The run goes on from point to point: i is the next position of the path, and the next preemption
 // begins at `at`. A preempting run changes the row; what it misses isn't counted.
 pub fn disturbed(file: &[u8], sheet: &[u16], shape: CacheShape) -> u32
-    requires { ⌜ Passed13 (now file) (now sheet) shape ⌝ }
+    requires { ⌜ Passed13 (now file) (now sheet) × (shape ≡ fileShape (now file)) ⌝ }
     ensures { λ r. ⌜ r ≡ disturbedIn (now (file .entry)) (runIn (now (file .entry)) (now (sheet .entry))) ⌝ }
 {
     let p = count(sheet[0]);

@@ -7,15 +7,13 @@ ghost use Rattle.project.specs.Reading.{headCheck};
 ghost use Rattle.replay.specs.Replay.{replayingOf};
 use cache::blocks::CacheShape;
 use cache::numbers::byte_count;
-use checks::all_complete;
+use checks::check_sheet;
 use counts::disturbed;
 use counts::undisturbed;
 use project::answers::Check;
-use project::answers::NO_TASK;
 use project::answers::Reading;
 use project::head::head;
 use reader::read_bodies;
-use sheet::rules::sheet_kept;
 
 // What Replay answers: the misses of the run's own references without and with the preemptions, or the check that fails first and the task it names.
 pub enum Replaying {
@@ -30,27 +28,18 @@ fn replay_bodies(file: &[u8], sheet: &[u16]) -> Replaying
 {
     match read_bodies(file) {
         Reading::Refused { check, task } => Replaying::Refused { check, task },
-        Reading::Accepted { n, t } => {
-            if sheet_kept(sheet, byte_count(t)) {
-                if all_complete(file, sheet) {
-                    let shape = CacheShape { blocks: n };
-                    let u = undisturbed(file, sheet, shape);
-                    let d = disturbed(file, sheet, shape);
-                    return Replaying::Counted {
-                        undisturbed: u,
-                        disturbed: d,
-                    };
+        Reading::Accepted { n, t } => match check_sheet(file, sheet, byte_count(t)) {
+            Check::Refused { check, task } => Replaying::Refused { check, task },
+            Check::Passed => {
+                let shape = CacheShape { blocks: n };
+                let u = undisturbed(file, sheet, shape);
+                let d = disturbed(file, sheet, shape);
+                Replaying::Counted {
+                    undisturbed: u,
+                    disturbed: d,
                 }
-                return Replaying::Refused {
-                    check: 13,
-                    task: NO_TASK,
-                };
             }
-            Replaying::Refused {
-                check: 12,
-                task: NO_TASK,
-            }
-        }
+        },
     }
 }
 

@@ -1,19 +1,20 @@
--- The test of a path agrees with `Complete`, and that of all paths of a run with `AllComplete`; so check 13 fails just where the test does.
--- Each is an induction on the path or on the list of preemptions.
+-- The test of a path agrees with `Complete`, that of all paths of a run with `AllComplete`, and that of all its points with `AvoidsMasked`; so
+-- checks 13 and 16 fail just where their tests do. Each is an induction on the path or on the list of preemptions.
 use mathlib.Core.Path.{_≡_, refl, subst}
 use mathlib.Core.Logic.{_↔_}
 use mathlib.Core.Bool.{Bool, true, false≢true}
 use mathlib.Core.List.{List, [], _∷_}
 use Prim.Native.Nat.{ℕ}
 use lib.Dec.{eqb, ltb}
-use lib.ListN.{length}
+use lib.ListN.{length, getD}
 use borrow.Author.Tests.{eqb-true, eq-eqb, ltb-true, lt-ltb}
 use Rattle.model.specs.Lists.{mem, Each}
-use Rattle.model.specs.Tasks.{Block, Task, block, end, PathFrom, stay, step, Complete, task}
+use Rattle.model.specs.Tasks.{Block, Task, block, Unmasked, end, PathFrom, stay, step, Complete, task}
 use Rattle.model.specs.Runs.{Preemption}
 use Rattle.model.proofs.Membership.{both-left, both-right}
-use Rattle.sheet.specs.Sheet.{SheetRun, AllComplete}
-use Rattle.sheet.specs.Parsed.{leadsToEnd, completePath, completeEach, completeAll}
+use Rattle.model.proofs.Most.{unmasked-exact}
+use Rattle.sheet.specs.Sheet.{SheetRun, AllComplete, AvoidsMasked}
+use Rattle.sheet.specs.Parsed.{leadsToEnd, completePath, eachPasses, completeBy, completeAll, unmaskedPoint, unmaskedAll}
 
 leads-path : (t : Task) (b : ℕ) (path : List ℕ) → leadsToEnd t b path ≡ true → PathFrom t b path (end t)
 leads-path t b [] e =
@@ -36,22 +37,36 @@ complete-exact t path = (there path, back path)
     back [] h = absurd h
     back (b ∷ path) h = rw (eq-eqb b 0 (h .0), path-leads t (h .1) refl)
 
-each-complete : (ts : List Task) (xs : List Preemption) → completeEach ts xs ≡ true → Each (λ (x : Preemption). Complete (task ts (x .by)) (x .path)) xs
-each-complete ts [] e = tt
-each-complete ts (x ∷ xs) e = (
-  complete-exact (task ts (x .by)) (x .path) .0 (both-left (completePath (task ts (x .by)) (x .path)) _ e),
-  each-complete ts xs (both-right (completePath (task ts (x .by)) (x .path)) _ e),
-)
+-- ---- all preemptions of a run, where a test agrees with a property of each
 
-complete-each : (ts : List Task) (xs : List Preemption) → Each (λ (x : Preemption). Complete (task ts (x .by)) (x .path)) xs → completeEach ts xs ≡ true
-complete-each ts [] h = refl
-complete-each ts (x ∷ xs) h = rw (complete-exact (task ts (x .by)) (x .path) .1 (h .0), complete-each ts xs (h .1))
+module _ (P : Preemption → Type 0) (test : Preemption → Bool) (exact : (x : Preemption) → (test x ≡ true) ↔ P x) where
+  each-has : (xs : List Preemption) → eachPasses test xs ≡ true → Each P xs
+  each-has [] e = tt
+  each-has (x ∷ xs) e = (exact x .0 (both-left (test x) _ e), each-has xs (both-right (test x) _ e))
+
+  has-each : (xs : List Preemption) → Each P xs → eachPasses test xs ≡ true
+  has-each [] h = refl
+  has-each (x ∷ xs) h = rw (exact x .1 (h .0), has-each xs (h .1))
+
+  each-exact : (xs : List Preemption) → (eachPasses test xs ≡ true) ↔ Each P xs
+  each-exact xs = (each-has xs, has-each xs)
 
 pub all-complete : (ts : List Task) (r : SheetRun) → (completeAll ts r ≡ true) ↔ AllComplete ts r
 all-complete ts r = (
   λ e. record {
-    own = complete-exact (task ts (r .p)) (r .path) .0 (both-left (completePath (task ts (r .p)) (r .path)) _ e);
-    each = each-complete ts (r .preemptions) (both-right (completePath (task ts (r .p)) (r .path)) _ e);
+    own = own .0 (both-left (completePath (task ts (r .p)) (r .path)) _ e);
+    each = each .0 (both-right (completePath (task ts (r .p)) (r .path)) _ e);
   },
-  λ h. rw (complete-exact (task ts (r .p)) (r .path) .1 (h .own), complete-each ts (r .preemptions) (h .each)),
+  λ h. rw (own .1 (h .own), each .1 (h .each)),
 )
+  where
+    own : (completePath (task ts (r .p)) (r .path) ≡ true) ↔ Complete (task ts (r .p)) (r .path)
+    own = complete-exact (task ts (r .p)) (r .path)
+
+    each : (eachPasses (completeBy ts) (r .preemptions) ≡ true) ↔ Each (λ (x : Preemption). Complete (task ts (x .by)) (x .path)) (r .preemptions)
+    each = each-exact (λ (x : Preemption). Complete (task ts (x .by)) (x .path)) (completeBy ts) (λ x. complete-exact (task ts (x .by)) (x .path)) (r .preemptions)
+
+pub all-unmasked : (ts : List Task) (r : SheetRun) → (unmaskedAll ts r ≡ true) ↔ AvoidsMasked ts r
+all-unmasked ts r =
+    each-exact (λ (x : Preemption). Unmasked (task ts (r .p)) (getD (r .path) (x .point) 0)) (unmaskedPoint (task ts (r .p)) (r .path))
+    (λ x. unmasked-exact (task ts (r .p)) (getD (r .path) (x .point) 0)) (r .preemptions)

@@ -4,7 +4,7 @@ use mathlib.Core.Path.{_≡_, refl, sym, ap, _∙_}
 use mathlib.Core.List.{List, [], _∷_, _++_}
 use Prim.Native.Nat.{ℕ, suc, _+_, _-_, _≤_, _<_}
 use native.Mathlib.Omega.{arith}
-use lib.ListN.{length, getD, take, drop, length-append, length-drop, drop-of-length-le}
+use lib.ListN.{length, getD, take, drop, length-append, length-drop, drop-of-length-le, List·getD-append}
 use lib.Seq.{getD-drop, take-at, drop-at, drop-drop, drop-append-add, drop-append-le, take-append-le}
 use Rattle.model.specs.Runs.{Preemption}
 use Rattle.sheet.specs.Sheet.{SheetRun, preemptionNumbers, sheetNumbers}
@@ -38,6 +38,11 @@ path-part s r h i j l m =
     let rest = length (r .preemptions) ∷ preemptionNumbers (r .preemptions) in
     rw (n, ← (drop-drop i 2 s), h .path-at, drop-append-le i (r .path) rest (omega arith))
     (take-append-le (j - i) (drop i (r .path)) rest (omega (arith, length-drop i (r .path))))
+
+-- the block at the position i of the path
+pub block-at : (s : List ℕ) (r : SheetRun) → SheetPlaces s r → (i : ℕ) → i < length (r .path) → getD s (2 + i) 0 ≡ getD (r .path) i 0
+block-at s r h i l =
+    sym (getD-drop 2 s i 0) ∙ ap (λ m. getD m i 0) (h .path-at) ∙ List·getD-append (r .path) (length (r .preemptions) ∷ preemptionNumbers (r .preemptions)) 0 i l
 
 -- ---- a preemption that begins at `at`
 

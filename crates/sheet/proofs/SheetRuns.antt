@@ -1,53 +1,46 @@
--- An accepted sheet describes a disturbed run, and every disturbed run within the bounds of a sheet has one; check 13 as a fault.
--- The idea: the rules of a sheet and complete paths are together the conditions of a disturbed run.
+-- An accepted sheet describes a disturbed run, and every disturbed run within the bounds of a sheet has one; checks 13 and 16 as faults.
+-- The idea: the rules of a sheet, complete paths and points at unmasked blocks are together the conditions of a disturbed run.
 use mathlib.Core.Path.{_≡_, refl, sym, ap, _∙_}
-use mathlib.Core.Bool.{Bool, true, false, true≢false}
+use mathlib.Core.Logic.{_↔_}
+use mathlib.Core.Bool.{Bool, true, false, not, false≢true}
 use mathlib.Core.List.{List, [], _∷_}
 use Prim.Native.Nat.{ℕ, _≤_}
 use native.Mathlib.Omega.{arith}
-use lib.ListN.{length}
+use lib.ListN.{length, getD}
 use Rattle.model.specs.Lists.{Each}
-use Rattle.model.specs.Tasks.{Task, Complete, task}
+use Rattle.model.specs.Tasks.{Task, Unmasked, Complete, task}
 use Rattle.model.specs.Runs.{Preemption, Preempts, DisturbedRun}
-use Rattle.sheet.specs.Sheet.{SheetRun, sheetNumbers, PathInBounds, PreemptionInRules, InRules, AllComplete, Fault13, Fits, sheetRun}
-use Rattle.sheet.specs.Parsed.{parsed, parse, completeAll}
+use Rattle.sheet.specs.Sheet.{SheetRun, sheetNumbers, PathInBounds, PreemptionInRules, InRules, AllComplete, Fault13, AvoidsMasked, Fault16, Fits, sheetRun}
+use Rattle.sheet.specs.Parsed.{parsed, parse, completeAll, unmaskedAll}
 use Rattle.sheet.proofs.Parsing.{parse-numbers, Parses, parsed-rules, one-run}
-use Rattle.sheet.proofs.CompletePaths.{all-complete}
+use Rattle.sheet.proofs.CompletePaths.{all-complete, all-unmasked}
 
 -- ---- from a sheet to a disturbed run
 
 pub preempting : (ts : List Task) (p : ℕ) (path : List ℕ) (xs : List Preemption) → Each (PreemptionInRules (length ts) p (length path)) xs
-    → Each (λ (x : Preemption). Complete (task ts (x .by)) (x .path)) xs → Each (Preempts ts p path) xs
-preempting ts p path [] h c = tt
-preempting ts p path (x ∷ xs) h c =
-    (record { inPath = h .0 .inPath; there = h .0 .there; other = h .0 .other; complete = c .0 }, preempting ts p path xs (h .1) (c .1))
+    → Each (λ (x : Preemption). Complete (task ts (x .by)) (x .path)) xs → Each (λ (x : Preemption). Unmasked (task ts p) (getD path (x .point) 0)) xs
+    → Each (Preempts ts p path) xs
+preempting ts p path [] h c m = tt
+preempting ts p path (x ∷ xs) h c m = (
+  record { inPath = h .0 .inPath; there = h .0 .there; other = h .0 .other; unmasked = m .0; complete = c .0 },
+  preempting ts p path xs (h .1) (c .1) (m .1),
+)
 
--- a run that keeps the rules of a sheet and whose paths are complete
-abbrev pub disturbedRun : (ts : List Task) (r : SheetRun) → InRules (length ts) r → AllComplete ts r → DisturbedRun ts
-disturbedRun ts r h c = record {
+-- a run that keeps the rules of a sheet, whose paths are complete and which avoids masked blocks
+abbrev pub disturbedRun : (ts : List Task) (r : SheetRun) → InRules (length ts) r → AllComplete ts r → AvoidsMasked ts r → DisturbedRun ts
+disturbedRun ts r h c m = record {
   p = r .p;
   path = r .path;
   preemptions = r .preemptions;
   there = h .there;
   complete = c .own;
-  each = preempting ts (r .p) (r .path) (r .preemptions) (h .each) (c .each);
+  each = preempting ts (r .p) (r .path) (r .preemptions) (h .each) (c .each) m;
   rising = h .rising;
 }
 
--- the disturbed run is the one that r says
-pub record RunOf (ts : List Task) (r : SheetRun) : Type 0 where
-  pub run : DisturbedRun ts
-  pub same-task : run .p ≡ r .p
-  pub same-path : run .path ≡ r .path
-  pub same-list : run .preemptions ≡ r .preemptions
-
-pub sheet-run : (ts : List Task) (s : List ℕ) (r : SheetRun) → parse (length ts) s ≡ parsed r → completeAll ts r ≡ true → RunOf ts r
-sheet-run ts s r e c = record {
-  run = disturbedRun ts r (parsed-rules (length ts) s r e .rules) (all-complete ts r .0 c);
-  same-task = refl;
-  same-path = refl;
-  same-list = refl;
-}
+-- the run of a sheet that passes checks 12, 13 and 16
+abbrev pub acceptedRun : (ts : List Task) (s : List ℕ) (r : SheetRun) → parse (length ts) s ≡ parsed r → completeAll ts r ≡ true → unmaskedAll ts r ≡ true → DisturbedRun ts
+acceptedRun ts s r e c m = disturbedRun ts r (parsed-rules (length ts) s r e .rules) (all-complete ts r .0 c) (all-unmasked ts r .0 m)
 
 -- ---- from a disturbed run to a sheet
 
@@ -68,9 +61,9 @@ in-rules ts p path (x ∷ xs) h b = (
   in-rules ts p path xs (h .1) (b .1),
 )
 
-each-own : (ts : List Task) (p : ℕ) (path : List ℕ) (xs : List Preemption) → Each (Preempts ts p path) xs → Each (λ (x : Preemption). Complete (task ts (x .by)) (x .path)) xs
-each-own ts p path [] h = tt
-each-own ts p path (x ∷ xs) h = (h .0 .complete, each-own ts p path xs (h .1))
+each-of : (P Q : Preemption → Type 0) → ((x : Preemption) → P x → Q x) → (xs : List Preemption) → Each P xs → Each Q xs
+each-of P Q f [] h = tt
+each-of P Q f (x ∷ xs) h = (f x (h .0), each-of P Q f xs (h .1))
 
 pub run-rules : (ts : List Task) (run : DisturbedRun ts) → Fits ts run → InRules (length ts) (sheetRun ts run)
 run-rules ts run f = record {
@@ -81,30 +74,43 @@ run-rules ts run f = record {
   rising = run .rising;
 }
 
--- the sheet of a run parses to it, and all its paths are complete
+-- the sheet of a run parses to it, all its paths are complete and it avoids masked blocks
 pub record SheetOf (ts : List Task) (run : DisturbedRun ts) : Type 0 where
   pub parses : parse (length ts) (sheetNumbers (sheetRun ts run)) ≡ parsed (sheetRun ts run)
   pub complete : completeAll ts (sheetRun ts run) ≡ true
+  pub unmasked : unmaskedAll ts (sheetRun ts run) ≡ true
 
 pub run-sheet : (ts : List Task) (run : DisturbedRun ts) → Fits ts run → SheetOf ts run
 run-sheet ts run f = record {
   parses = parse-numbers (length ts) (sheetRun ts run) (run-rules ts run f);
-  complete = all-complete ts (sheetRun ts run) .1 (record { own = run .complete; each = each-own ts (run .p) (run .path) (run .preemptions) (run .each) });
+  complete = all-complete ts (sheetRun ts run) .1 (record {
+    own = run .complete;
+    each = each-of (Preempts ts (run .p) (run .path)) (λ (x : Preemption). Complete (task ts (x .by)) (x .path)) (λ x h. h .complete) (run .preemptions) (run .each);
+  });
+  unmasked = all-unmasked ts (sheetRun ts run) .1
+      (each-of (Preempts ts (run .p) (run .path)) (λ (x : Preemption). Unmasked (task ts (run .p)) (getD (run .path) (x .point) 0)) (λ x h. h .unmasked) (run .preemptions) (run .each));
 }
 
--- ---- check 13
+-- ---- checks 13 and 16 of a sheet that keeps the rules
 
-pub incomplete-fault : (ts : List Task) (s : List ℕ) (r : SheetRun) → parse (length ts) s ≡ parsed r → completeAll ts r ≡ false → Fault13 ts s
-incomplete-fault ts s r e c =
-    let h = parsed-rules (length ts) s r e in
-    (r, h .rules, h .numbers, λ a. true≢false (sym (all-complete ts r .1 a) ∙ c))
+-- where a test agrees with a rule of runs, it fails just where the sheet's run breaks the rule
+module _ (ts : List Task) (s : List ℕ) (r : SheetRun) (e : parse (length ts) s ≡ parsed r) (Rule : SheetRun → Type 0) (test : SheetRun → Bool) (exact : (q : SheetRun) → (test q ≡ true) ↔ Rule q) where
+  rule-exact : (not (test r) ≡ true) ↔ ((q : SheetRun) × InRules (length ts) q × (s ≡ sheetNumbers q) × (Rule q → ⊥))
+  rule-exact = (λ c. (r, h .rules, h .numbers, λ a. broken (test r) (exact r .1 a) c), λ (q, g, d, none). fails q g d none (test r) refl)
+    where
+      h : Parses (length ts) s r
+      h = parsed-rules (length ts) s r e
 
-pub fault-incomplete : (ts : List Task) (s : List ℕ) (r : SheetRun) → parse (length ts) s ≡ parsed r → Fault13 ts s → completeAll ts r ≡ false
-fault-incomplete ts s r e (q, g, d, not-all) = go (completeAll ts r) refl
-  where
-    same : r ≡ q
-    same = let h = parsed-rules (length ts) s r e in one-run (length ts) r q (h .rules) g (sym (h .numbers) ∙ d)
+      broken : (b : Bool) → b ≡ true → not b ≡ true → ⊥
+      broken true q c = false≢true c
+      broken false q c = false≢true q
 
-    go : (b : Bool) → completeAll ts r ≡ b → b ≡ false
-    go false c = refl
-    go true c = absurd (not-all (all-complete ts q .0 (sym (ap (completeAll ts) same) ∙ c)))
+      fails : (q : SheetRun) → InRules (length ts) q → s ≡ sheetNumbers q → (Rule q → ⊥) → (b : Bool) → test r ≡ b → not b ≡ true
+      fails q g d none false c = refl
+      fails q g d none true c = absurd (none (exact q .0 (sym (ap test (one-run (length ts) r q (h .rules) g (sym (h .numbers) ∙ d))) ∙ c)))
+
+pub incomplete-exact : (ts : List Task) (s : List ℕ) (r : SheetRun) → parse (length ts) s ≡ parsed r → (not (completeAll ts r) ≡ true) ↔ Fault13 ts s
+incomplete-exact ts s r e = rule-exact ts s r e (AllComplete ts) (completeAll ts) (all-complete ts)
+
+pub masked-exact : (ts : List Task) (s : List ℕ) (r : SheetRun) → parse (length ts) s ≡ parsed r → (not (unmaskedAll ts r) ≡ true) ↔ Fault16 ts s
+masked-exact ts s r e = rule-exact ts s r e (AvoidsMasked ts) (unmaskedAll ts) (all-unmasked ts)

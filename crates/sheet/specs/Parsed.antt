@@ -1,4 +1,5 @@
--- The run that a sheet is the numbers of, and whether its paths are complete, computed; proofs show that they agree with `Sheet`.
+-- The run that a sheet is the numbers of, whether its paths are complete and whether it avoids masked blocks, computed; proofs show that
+-- they agree with `Sheet`.
 use mathlib.Core.Bool.{Bool, true, false, not, _&&_, cond}
 use mathlib.Core.List.{List, [], _∷_}
 use Prim.Native.Nat.{ℕ, zero, suc, _-_}
@@ -8,6 +9,7 @@ use Rattle.cache.specs.Sets.{inSet}
 use Rattle.model.specs.Lists.{mem}
 use Rattle.model.specs.Tasks.{Block, Task, Path, block, end, task}
 use Rattle.model.specs.Runs.{Preemption}
+use Rattle.model.specs.Computed.{unmasked}
 use Rattle.sheet.specs.Sheet.{SheetRun, Sheet}
 
 -- preemptions, or none where the numbers break the rules
@@ -97,10 +99,25 @@ abbrev pub completeBySets : List ℕ → ℕ → Path → Bool
 completeBySets sets blocks [] = false
 completeBySets sets blocks (b ∷ path) = eqb b 0 && leadsBySets sets blocks b path
 
--- all paths of a run
-abbrev pub completeEach : List Task → List Preemption → Bool
-completeEach ts [] = true
-completeEach ts (x ∷ xs) = completePath (task ts (x .by)) (x .path) && completeEach ts xs
+-- ---- all preemptions of a run
 
+-- each preemption of the list passes the test
+abbrev pub eachPasses : (Preemption → Bool) → List Preemption → Bool
+eachPasses test [] = true
+eachPasses test (x ∷ xs) = test x && eachPasses test xs
+
+-- the path of a preemption is complete
+abbrev pub completeBy : List Task → Preemption → Bool
+completeBy ts x = completePath (task ts (x .by)) (x .path)
+
+-- all paths of a run are complete
 abbrev pub completeAll : List Task → SheetRun → Bool
-completeAll ts r = completePath (task ts (r .p)) (r .path) && completeEach ts (r .preemptions)
+completeAll ts r = completePath (task ts (r .p)) (r .path) && eachPasses (completeBy ts) (r .preemptions)
+
+-- a preemption of the path of a task comes after an unmasked block
+abbrev pub unmaskedPoint : Task → Path → Preemption → Bool
+unmaskedPoint t path x = unmasked t (getD path (x .point) 0)
+
+-- all preemptions of a run do
+abbrev pub unmaskedAll : List Task → SheetRun → Bool
+unmaskedAll ts r = eachPasses (unmaskedPoint (task ts (r .p)) (r .path)) (r .preemptions)

@@ -1,12 +1,11 @@
--- Document 01, "Calls": the run sheet of Replay, and checks 12 and 13 against it. Definitions only.
+-- Document 01, "Calls": the run sheet of Replay, and checks 12 and 13 against it; document 02, Point 1: check 16. Definitions only.
 use mathlib.Core.Path.{_≡_}
-use mathlib.Core.Logic.{_≢_, _⊎_}
-use mathlib.Core.Bool.{true}
+use mathlib.Core.Logic.{_≢_}
 use mathlib.Core.List.{List, [], _∷_, _++_}
 use Prim.Native.Nat.{ℕ, _≤_, _<_}
-use lib.ListN.{length}
+use lib.ListN.{length, getD}
 use Rattle.model.specs.Lists.{Each}
-use Rattle.model.specs.Tasks.{Task, Path, Complete, task}
+use Rattle.model.specs.Tasks.{Task, Unmasked, Path, Complete, task}
 use Rattle.model.specs.Runs.{Preemption, NeverFall, DisturbedRun}
 
 -- what a run sheet says: task p, its path, and the preemptions
@@ -68,6 +67,14 @@ pub record AllComplete (ts : List Task) (r : SheetRun) : Type 0 where
 -- check 13: "a path in it isn't complete, or names a block that isn't there", of a sheet that keeps the rules
 abbrev pub Fault13 : List Task → Sheet → Type 0
 Fault13 ts sheet = (r : SheetRun) × InRules (length ts) r × (sheet ≡ sheetNumbers r) × (AllComplete ts r → ⊥)
+
+-- document 02, Point 1: "preemptions avoid masked blocks (its path may pass them)": the block of the path at each point is unmasked
+abbrev pub AvoidsMasked : List Task → SheetRun → Type 0
+AvoidsMasked ts r = Each (λ (x : Preemption). Unmasked (task ts (r .p)) (getD (r .path) (x .point) 0)) (r .preemptions)
+
+-- check 16: "a preemption at a masked position", of a sheet that keeps the rules
+abbrev pub Fault16 : List Task → Sheet → Type 0
+Fault16 ts sheet = (r : SheetRun) × InRules (length ts) r × (sheet ≡ sheetNumbers r) × (AvoidsMasked ts r → ⊥)
 
 -- what a sheet can hold: "path length 1 to 64", "preemption count 0 to 16"
 pub record Fits (ts : List Task) (run : DisturbedRun ts) : Type 0 where

@@ -11,6 +11,8 @@ use Rattle.cache.specs.Cache.{Cache}
 use Rattle.model.specs.Lists.{best}
 use Rattle.model.specs.Tasks.{Task, task}
 use Rattle.model.specs.Computed.{sorted, reaching, living, pairNumber}
+use Rattle.body.specs.Jumps.{unmaskedSet}
+use Rattle.body.proofs.JumpLaws.{in-unmasked}
 use Rattle.rows.specs.Rows.{Width, kindLength}
 use Rattle.gather.specs.Graph.{tooMany}
 use Rattle.gather.specs.Memory.{heldRows, Memory}
@@ -18,7 +20,7 @@ use Rattle.gather.specs.Gathered.{GatheredRows}
 use Rattle.graphs.specs.TaskRows.{test11, AreaRows}
 use Rattle.project.proofs.Accepted.{or-false-left, or-false-right}
 use Rattle.area.proofs.Areas.{few-rows}
-use Rattle.pairs.specs.Pairs.{mostCommon, taskUseful, usedOf, Met}
+use Rattle.pairs.specs.Pairs.{mostCommon, within, taskUseful, usedOf, Met}
 use Rattle.pairs.proofs.PairNumbers.{pair-number}
 use Rattle.table.specs.Found.{Few, UsedFound, NumbersFound}
 use Rattle.table.proofs.UsedLaws.{getD-zeros}
@@ -67,11 +69,11 @@ module _ (k : Cache) (t : Task) {area reached lived : List ℕ} {full : Bool} (h
           rw second
           (gathered-memory (living k t) width (h .rows .liveLong) (h .rows .liveMany) (or-false-right (tooMany (reaching k t) 24) (tooMany (living k t) 24) none) (h .rows .lived few))
 
-      pub numbers-few : (ts : List Task) (tasks blocks : ℕ) {sets counts old new : List ℕ} → blocks ≡ length t → blocks ≤ 24 → old ≡ replicate 8 0
+      pub numbers-few : (ts : List Task) (tasks blocks : ℕ) {set : ℕ} {sets counts old new : List ℕ} → blocks ≡ length t → blocks ≤ 24 → set ≡ unmaskedSet t → old ≡ replicate 8 0
           → UsedFound k ts tasks sets counts
-          → Met (taskUseful (heldRows (k .width) rows reached) (heldRows (k .width) live lived) blocks 0) sets counts tasks old new
+          → Met (taskUseful (within set (heldRows (k .width) rows reached)) (heldRows (k .width) live lived) blocks 0) sets counts tasks old new
           → NumbersFound k ts tasks t new false
-      numbers-few ts tasks blocks {sets} {counts} {old} {new} e low z used met =
+      numbers-few ts tasks blocks {set} {sets} {counts} {old} {new} e low masks z used met =
           record {
             long = met .long ∙ ap length z ∙ length-replicate {A = ℕ} 8 0;
             answer = sym none;
@@ -84,9 +86,10 @@ module _ (k : Cache) (t : Task) {area reached lived : List ℕ} {full : Bool} (h
           at-first j = rw z (getD-zeros 8 j)
 
           number : (j : ℕ) → j < tasks → Few k (task ts j)
-              → max (getD old j 0) (best (λ (u : ℕ). mostCommon u (usedOf sets counts j)) (taskUseful (heldRows (k .width) rows reached) (heldRows (k .width) live lived) blocks 0))
+              → max (getD old j 0) (best (λ (u : ℕ). mostCommon u (usedOf sets counts j)) (taskUseful (within set (heldRows (k .width) rows reached)) (heldRows (k .width) live lived) blocks 0))
               ≡ pairNumber k t (task ts j)
           number j l f =
-              let p = pair-number k t (task ts j) (heldRows (k .width) rows reached) (heldRows (k .width) live lived) (usedOf sets counts j)
+              let p = pair-number k t (task ts j) set (heldRows (k .width) rows reached) (heldRows (k .width) live lived) (usedOf sets counts j)
+              (λ b i. rw masks (in-unmasked t b i))
               (λ b i. rw first (held-sorted b (h .rows .reached few b (omega (arith, e))))) (λ b i. rw second (held-sorted b (h .rows .lived few b (omega (arith, e))))) (used .found j l f) in
               rw (at-first j, e) (omega (arith, p))

@@ -17,6 +17,7 @@ ghost use Rattle.pairs.specs.Pairs.{UsedSets};
 ghost use Rattle.table.specs.Table.{firstFull, tableOf};
 ghost use Rattle.table.specs.Found.{UsedFound, NumbersFound};
 use body::block_count;
+use body::masks::unmasked_blocks;
 use cache::blocks::CacheShape;
 use graphs::task_rows::task_rows;
 use pairs::numbers::meet_task;
@@ -50,6 +51,7 @@ fn task_numbers(
     meet_task(
         w,
         block_count(body),
+        unmasked_blocks(body),
         &area[0..kind],
         &reached,
         &area[kind..kind + kind],

@@ -10,7 +10,7 @@ use Rattle.body.proofs.block.block_kept.Tie as tie
 returns : tie.Need-returns
 returns c =
     let args = c .before .before .args in
-    test-flags (args .blocks) (args .flags) (args .successors) (args .references) (args .rest .now) (λ e. omega arith)
+    test-flags (args .blocks) (args .flags) (args .successors) (args .references) (args .rest .now) (omega arith)
 
 returns-2 : tie.Need-returns-2
 returns-2 c =

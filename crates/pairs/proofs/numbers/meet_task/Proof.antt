@@ -1,24 +1,26 @@
--- `numbers::meet_task` meets its contract: after b turns the useful sets of the first b blocks are met. Assumes nothing.
-use mathlib.Core.Path.{_≡_}
+-- `numbers::meet_task` meets its contract: after b turns the useful sets of the unmasked ones among the first b blocks are met. Assumes nothing.
+use mathlib.Core.Path.{_≡_, _∙_}
+use mathlib.Core.Logic.{inl, inr}
 use Prim.Native.Nat.{_+_, _*_, _-_, _≤_}
 use native.Mathlib.Omega.{arith}
 use borrow.Author.Needs.{needs}
 use lib.ListN.{length}
+use Rattle.cache.proofs.Members.{in-word, out-word}
 use Rattle.rows.proofs.Parts.{row-within}
 use Rattle.gather.specs.Memory.{heldRows}
-use Rattle.pairs.specs.Pairs.{taskUseful, Met, Absorbed}
+use Rattle.pairs.specs.Pairs.{within, taskUseful, Met, Absorbed}
 use Rattle.pairs.proofs.UsedSets.{lent-long}
-use Rattle.pairs.proofs.Meeting.{held-at, met-none, met-task, absorbed-none}
+use Rattle.pairs.proofs.Meeting.{held-at, met-none, met-within, met-outside, absorbed-none}
 use Rattle.pairs.proofs.numbers.meet_task.Statement.{statement}
 use Rattle.pairs.proofs.numbers.meet_task.Tie as tie
 
 abbrev Inv-loop : tie.InvT-loop
-Inv-loop w blocks reaching reached live lived used counts tasks numbers₀ met₀ part b₀ numbers met b =
+Inv-loop w blocks unmasked reaching reached live lived used counts tasks numbers₀ met₀ part b₀ numbers met b =
     (b ≤ blocks) × (length numbers ≡ 8)
-    × Met (taskUseful (heldRows w reaching reached) (heldRows w live lived) b 0) used counts tasks numbers₀ numbers × Absorbed met used counts tasks numbers
+    × Met (taskUseful (within unmasked (heldRows w reaching reached)) (heldRows w live lived) b 0) used counts tasks numbers₀ numbers × Absorbed met used counts tasks numbers
 
 abbrev μ-loop : tie.MeasureT-loop
-μ-loop w blocks reaching reached live lived used counts tasks numbers₀ met₀ part b₀ numbers met b = blocks - b
+μ-loop w blocks unmasked reaching reached live lived used counts tasks numbers₀ met₀ part b₀ numbers met b = blocks - b
 
 -- where the rows of block b end
 inside : (c : tie.In-loop Inv-loop μ-loop) → let w = c .before .before .before .before .before .before .before .before .before .args .w in
@@ -36,14 +38,20 @@ loop-holds c =
     let args = start .args in
     (omega arith, start .pre .4, met-none (args .used .now) (args .counts .now) (args .tasks) (args .numbers .now), absorbed-none (args .used .now) (args .counts .now) (args .tasks) (args .numbers .now))
 
+cast-if1 : tie.Need-cast-if1 Inv-loop μ-loop
+cast-if1 c = search needs
+
+shl-if1 : tie.Need-shl-if1 Inv-loop μ-loop
+shl-if1 c = search needs
+
 mul-at : tie.Need-mul-at Inv-loop μ-loop
-mul-at c = omega (arith, inside c)
+mul-at c = omega (arith, inside (c .before))
 
 add-meet-block : tie.Need-add-meet-block Inv-loop μ-loop
-add-meet-block c = omega (arith, inside c)
+add-meet-block c = omega (arith, inside (c .before))
 
 mul-meet-block : tie.Need-mul-meet-block Inv-loop μ-loop
-mul-meet-block c = omega (arith, inside c)
+mul-meet-block c = omega (arith, inside (c .before))
 
 sub-meet-block : tie.Need-sub-meet-block Inv-loop μ-loop
 sub-meet-block c = search needs
@@ -52,7 +60,7 @@ part-meet-block-start : tie.Need-part-meet-block-start Inv-loop μ-loop
 part-meet-block-start c = search needs
 
 part-meet-block-end : tie.Need-part-meet-block-end Inv-loop μ-loop
-part-meet-block-end c = omega (arith, inside c, c .before .before .before .before .before .before .before .before .before .pre .1 .long)
+part-meet-block-end c = omega (arith, inside (c .before), c .before .before .before .before .before .before .before .before .before .before .pre .1 .long)
 
 mul-meet-block-2 : tie.Need-mul-meet-block-2 Inv-loop μ-loop
 mul-meet-block-2 c = search needs
@@ -61,10 +69,10 @@ shared-slice-read-meet-block : tie.Need-shared-slice-read-meet-block Inv-loop μ
 shared-slice-read-meet-block c = search needs
 
 add-meet-block-2 : tie.Need-add-meet-block-2 Inv-loop μ-loop
-add-meet-block-2 c = omega (arith, inside (c .before .before))
+add-meet-block-2 c = omega (arith, inside (c .before .before .before))
 
 mul-meet-block-3 : tie.Need-mul-meet-block-3 Inv-loop μ-loop
-mul-meet-block-3 c = omega (arith, inside (c .before .before))
+mul-meet-block-3 c = omega (arith, inside (c .before .before .before))
 
 sub-meet-block-2 : tie.Need-sub-meet-block-2 Inv-loop μ-loop
 sub-meet-block-2 c = search needs
@@ -73,7 +81,7 @@ part-meet-block-start-2 : tie.Need-part-meet-block-start-2 Inv-loop μ-loop
 part-meet-block-start-2 c = search needs
 
 part-meet-block-end-2 : tie.Need-part-meet-block-end-2 Inv-loop μ-loop
-part-meet-block-end-2 c = omega (arith, inside (c .before .before), c .before .before .before .before .before .before .before .before .before .before .before .pre .2 .long)
+part-meet-block-end-2 c = omega (arith, inside (c .before .before .before), c .before .before .before .before .before .before .before .before .before .before .before .before .pre .2 .long)
 
 mul-meet-block-4 : tie.Need-mul-meet-block-4 Inv-loop μ-loop
 mul-meet-block-4 c = search needs
@@ -83,8 +91,8 @@ shared-slice-read-meet-block-2 c = search needs
 
 meet-block-requires : tie.Need-meet-block-requires Inv-loop μ-loop
 meet-block-requires c κs =
-    let start = c .before .before .before .before .before .before .before .before .before .before .before .before .before .before .before in
-    let at = c .before .before .before .before .before .before .before .loop in
+    let start = c .before .before .before .before .before .before .before .before .before .before .before .before .before .before .before .before in
+    let at = c .before .before .before .before .before .before .before .before .loop in
     let args = start .args in (
       start .pre .1 .width,
       lent-long (32 * args .w) (at .b) 24 (args .reaching .now) (omega arith) (start .pre .1 .long),
@@ -104,15 +112,25 @@ loop-less c = search needs
 
 loop-again : tie.Need-loop-again Inv-loop μ-loop
 loop-again c =
-    let at = c .before .before .before .before .before .before .before .before .before .before .loop in
-    let args = c .before .before .before .before .before .before .before .before .before .before .before .before .before .before .before .before .before .before .args in
-    let met = c .before .before .meet-block .ensures in (
-      omega arith,
-      search needs,
-      met-task (args .used .now) (args .counts .now) (args .tasks) (at .b) (heldRows (args .w) (args .reaching .now) (args .reached .now)) (heldRows (args .w) (args .live .now) (args .lived .now))
-          (held-at (args .w) (args .reaching .now) (args .reached .now) (at .b)) (held-at (args .w) (args .live .now) (args .lived .now) (at .b)) (at .inv .2) (met .0),
-      met .1,
-    )
+    let start = c .before .before .before .before .before .before .before .before .before .before in
+    let at = c .before .before .loop in
+    let args = start .args in
+    let rs = heldRows (args .w) (args .reaching .now) (args .reached .now) in
+    let ls = heldRows (args .w) (args .live .now) (args .lived .now) in
+    let next : Met (taskUseful (within (args .unmasked) rs) ls (at .b + 1) 0) (args .used .now) (args .counts .now) (args .tasks) (args .numbers .now) (c .if1 .numbers)
+    × Absorbed (c .if1 .met) (args .used .now) (args .counts .now) (args .tasks) (c .if1 .numbers)
+    = elim (c .if1 .came) [
+      | inl w ↦ rw (w .10, w .11) (
+        met-within (args .used .now) (args .counts .now) (args .tasks) (at .b) (args .unmasked) rs ls (in-word 32 (args .unmasked) (at .b) (omega arith) (w .0 .taken))
+            (held-at (args .w) (args .reaching .now) (args .reached .now) (at .b)) (held-at (args .w) (args .live .now) (args .lived .now) (at .b)) (at .inv .2) (w .7 .ensures .0),
+        w .7 .ensures .1,
+      )
+      | inr w ↦ rw (w .1, w .2) (
+        met-outside (args .used .now) (args .counts .now) (args .tasks) (at .b) (args .unmasked) rs ls (out-word 32 (args .unmasked) (at .b) (omega arith) (w .0 .left)) (at .inv .2),
+        at .inv .3,
+      )
+    ] in
+    (omega arith, next .0 .long ∙ start .pre .4, next .0, next .1)
 
 same-length : tie.Need-same-length Inv-loop μ-loop
 same-length c = search needs
@@ -131,6 +149,8 @@ meet-task-spec =
     μ-loop
     mul-part
     loop-holds
+    cast-if1
+    shl-if1
     mul-at
     add-meet-block
     mul-meet-block

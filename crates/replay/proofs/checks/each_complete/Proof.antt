@@ -1,19 +1,18 @@
 -- `checks::each_complete` meets its contract: the paths that are left are complete just where all are. Assumes nothing.
-use mathlib.Core.Path.{refl, ap, _∙_}
+use mathlib.Core.Path.{_≡_, _∙_}
 use Prim.Native.Nat.{_+_, _-_, _≤_, _<_}
 use native.Mathlib.Omega.{arith}
 use borrow.Author.Needs.{needs}
-use lib.ListN.{length, drop}
+use lib.ListN.{length}
 use Rattle.project.specs.File.{taskCount}
 use Rattle.project.specs.Tasks.{tasksOf}
-use Rattle.replay.specs.Replay.{runIn}
-use Rattle.replay.proofs.SheetLaws.{SheetFacts, sheet-facts, EachLeft, NextLeft, next-left, each-end, next-there, each-broken, each-on}
+use Rattle.sheet.specs.Parsed.{completeBy}
+use Rattle.replay.proofs.SheetLaws.{SheetFacts, sheet-facts, EachLeft, NextLeft, each-start, next-left, each-end, each-broken, each-on, next-there, next-judged}
 use Rattle.replay.proofs.checks.each_complete.Statement.{statement}
 use Rattle.replay.proofs.checks.each_complete.Tie as tie
 
 abbrev Inv-loop : tie.InvT-loop
-Inv-loop file sheet at₀ at =
-    EachLeft (tasksOf file) (taskCount file) (runIn file sheet .p) (length (runIn file sheet .path)) sheet (runIn file sheet .preemptions) at
+Inv-loop file sheet at₀ at = EachLeft (completeBy (tasksOf file)) file sheet at
 
 abbrev μ-loop : tie.MeasureT-loop
 μ-loop file sheet at₀ at = length sheet - at
@@ -24,12 +23,10 @@ facts c = sheet-facts (c .args .file .now) (c .args .sheet .now) (c .pre)
 -- the next preemption
 next : (c : tie.In-loop Inv-loop μ-loop)
     → let args = c .before .before .before .before .before .before .args in
-    let r = runIn (args .file .now) (args .sheet .now) in
-    NextLeft (tasksOf (args .file .now)) (taskCount (args .file .now)) (r .p) (length (r .path)) (args .sheet .now) (r .preemptions) (c .before .loop .at)
+    NextLeft (completeBy (tasksOf (args .file .now))) (args .file .now) (args .sheet .now) (c .before .loop .at)
 next c =
     let args = c .before .before .before .before .before .before .args in
-    let r = runIn (args .file .now) (args .sheet .now) in
-    next-left (tasksOf (args .file .now)) (taskCount (args .file .now)) (r .p) (length (r .path)) (args .sheet .now) (r .preemptions) (c .before .loop .at) (c .before .loop .inv) (c .loop-test .taken)
+    next-left (completeBy (tasksOf (args .file .now))) (args .file .now) (args .sheet .now) (c .before .loop .at) (c .before .loop .inv) (c .loop-test .taken)
 
 -- it lies in the sheet
 within : (c : tie.After-count2 Inv-loop μ-loop)
@@ -39,11 +36,19 @@ within c = let n = next (c .before .before) in omega (arith, c .count2 .ensures 
 -- its task is one of the file
 there : (c : tie.After-count3 Inv-loop μ-loop) → c .count3 .result < taskCount (c .before .before .before .before .before .before .before .before .before .before .args .file .now)
 there c =
-    let k = c in
+    let args = c .before .before .before .before .before .before .before .before .before .before .args in
+    next-there (completeBy (tasksOf (args .file .now))) (args .file .now) (args .sheet .now) (c .before .before .before .before .before .loop .at) (next (c .before .before .before .before))
+    (c .count3 .ensures .0) (c .before .before .count2 .ensures .0)
+
+-- what the test says of its path
+judged : (c : tie.After-complete-in Inv-loop μ-loop)
+    → let k = c .before .before in
+    completeBy (tasksOf (k .before .before .before .before .before .before .before .before .before .before .args .file .now)) (next (k .before .before .before .before) .first) ≡ c .complete-in .result
+judged c =
+    let k = c .before .before in
     let args = k .before .before .before .before .before .before .before .before .before .before .args in
-    let r = runIn (args .file .now) (args .sheet .now) in
-    next-there (tasksOf (args .file .now)) (taskCount (args .file .now)) (r .p) (length (r .path)) (args .sheet .now) (r .preemptions) (k .before .before .before .before .before .loop .at)
-    (next (k .before .before .before .before)) (k .count3 .ensures .0) (k .before .before .count2 .ensures .0)
+    next-judged (completeBy (tasksOf (args .file .now))) (args .file .now) (args .sheet .now) (k .before .before .before .before .before .loop .at) (next (k .before .before .before .before))
+    (k .count3 .ensures .0) (k .before .before .count2 .ensures .0) (tasksOf (args .file .now)) (c .complete-in .ensures)
 
 shared-slice-read-count : tie.Need-shared-slice-read-count Inv-loop μ-loop
 shared-slice-read-count c = omega (arith, facts (c .before .before .before) .places .within)
@@ -56,14 +61,8 @@ add-at c = omega arith
 
 loop-holds : tie.Need-loop-holds Inv-loop μ-loop
 loop-holds c =
-    let f = facts (c .before .before .before .before) in
-    let sheet = c .before .before .before .before .args .sheet .now in
-    record {
-      left = runIn (c .before .before .before .before .args .file .now) sheet .preemptions;
-      numbers-at = ap (λ k. drop (3 + k) sheet) (c .count .ensures .0 ∙ f .places .long-at) ∙ f .places .list-at;
-      rules = f .rules .each;
-      same = refl;
-    }
+    let start = c .before .before .before .before in
+    each-start (completeBy (tasksOf (start .args .file .now))) (start .args .file .now) (start .args .sheet .now) (facts start) (c .count .ensures .0)
 
 add-from : tie.Need-add-from Inv-loop μ-loop
 add-from c = omega arith
@@ -117,23 +116,20 @@ loop-again : tie.Need-loop-again Inv-loop μ-loop
 loop-again c =
     let k = c .before .before .before in
     let args = k .before .before .before .before .before .before .before .before .before .before .args in
-    let r = runIn (args .file .now) (args .sheet .now) in
-    each-on (tasksOf (args .file .now)) (taskCount (args .file .now)) (r .p) (length (r .path)) (args .sheet .now) (r .preemptions) (k .before .before .before .before .before .loop .at)
-    (next (k .before .before .before .before)) (k .count3 .ensures .0) (k .before .before .count2 .ensures .0) (c .before .complete-in .ensures) (c .if1 .taken)
+    each-on (completeBy (tasksOf (args .file .now))) (args .file .now) (args .sheet .now) (k .before .before .before .before .before .loop .at) (next (k .before .before .before .before))
+    (k .before .before .count2 .ensures .0) (judged (c .before) ∙ c .if1 .taken)
 
 returns : tie.Need-returns Inv-loop μ-loop
 returns c =
     let k = c .before .before .before in
     let args = k .before .before .before .before .before .before .before .before .before .before .args in
-    let r = runIn (args .file .now) (args .sheet .now) in
-    each-broken (tasksOf (args .file .now)) (taskCount (args .file .now)) (r .p) (length (r .path)) (args .sheet .now) (r .preemptions) (k .before .before .before .before .before .loop .at)
-    (next (k .before .before .before .before)) (k .count3 .ensures .0) (k .before .before .count2 .ensures .0) (c .before .complete-in .ensures) (c .if1 .left)
+    each-broken (completeBy (tasksOf (args .file .now))) (args .file .now) (args .sheet .now) (k .before .before .before .before .before .loop .at) (next (k .before .before .before .before))
+    (judged (c .before) ∙ c .if1 .left)
 
 returns-2 : tie.Need-returns-2 Inv-loop μ-loop
 returns-2 c =
     let args = c .before .before .before .before .before .before .args in
-    let r = runIn (args .file .now) (args .sheet .now) in
-    each-end (tasksOf (args .file .now)) (taskCount (args .file .now)) (r .p) (length (r .path)) (args .sheet .now) (r .preemptions) (c .before .loop .at) (c .before .loop .inv) (c .loop-test .left)
+    each-end (completeBy (tasksOf (args .file .now))) (args .file .now) (args .sheet .now) (c .before .loop .at) (c .before .loop .inv) (c .loop-test .left)
 
 pub each-complete-spec : {M : Type 1} → statement M
 each-complete-spec =

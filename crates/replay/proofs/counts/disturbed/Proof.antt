@@ -17,7 +17,7 @@ abbrev μ-loop : tie.MeasureT-loop
 μ-loop file sheet shape p long cache₀ i₀ at₀ cache i at = length sheet - at
 
 facts : (c : tie.Start Inv-loop μ-loop) → SheetFacts (c .args .file .now) (c .args .sheet .now)
-facts c = sheet-facts (c .args .file .now) (c .args .sheet .now) (c .args .shape) (c .pre)
+facts c = sheet-facts (c .args .file .now) (c .args .sheet .now) (c .args .shape) (c .pre .0) (c .pre .1)
 
 -- the next preemption
 next : (c : tie.In-loop Inv-loop μ-loop)
@@ -27,7 +27,7 @@ next : (c : tie.In-loop Inv-loop μ-loop)
 next c =
     let at = c .before .loop in
     let start = c .before .before .before .before .before .before .before .before .before in
-    run-next (start .args .file .now) (start .args .sheet .now) (start .args .shape) (start .pre) (at .cache .cells) (at .cache .misses) (at .i) (at .at) (at .inv) (c .loop-test .taken)
+    run-next (start .args .file .now) (start .args .sheet .now) (start .args .shape) (start .pre .0) (start .pre .1) (at .cache .cells) (at .cache .misses) (at .i) (at .at) (at .inv) (c .loop-test .taken)
 
 -- the own blocks up to its point
 own : (c : tie.After-count3 Inv-loop μ-loop)
@@ -38,7 +38,7 @@ own c =
     let l = c .before .before .before in
     let at = l .loop in
     let start = l .before .before .before .before .before .before .before .before in
-    own-run (start .args .file .now) (start .args .sheet .now) (start .args .shape) (start .pre) (at .cache .cells) (at .cache .misses) (at .i) (at .at) (at .inv) (next (c .before .before)) (l .before .before .before .before .count .ensures .0) (c .count3 .ensures .0)
+    own-run (start .args .file .now) (start .args .sheet .now) (start .args .shape) (start .pre .0) (start .pre .1) (at .cache .cells) (at .cache .misses) (at .i) (at .at) (at .inv) (next (c .before .before)) (l .before .before .before .before .count .ensures .0) (c .count3 .ensures .0)
 
 -- its path
 by : (c : tie.After-count5 Inv-loop μ-loop)
@@ -51,7 +51,7 @@ by c =
     let l = k .before .before .before .before .before .before .before in
     let at = l .loop in
     let start = l .before .before .before .before .before .before .before .before in
-    by-run (start .args .file .now) (start .args .sheet .now) (start .args .shape) (start .pre) (at .cache .cells) (at .cache .misses) (at .i) (at .at) (at .inv) (next (k .before .before .before .before .before .before)) (l .before .before .before .before .count .ensures .0) (k .before .before .before .before .count3 .ensures .0)
+    by-run (start .args .file .now) (start .args .sheet .now) (start .args .shape) (start .pre .0) (start .pre .1) (at .cache .cells) (at .cache .misses) (at .i) (at .at) (at .inv) (next (k .before .before .before .before .before .before)) (l .before .before .before .before .count .ensures .0) (k .before .before .before .before .count3 .ensures .0)
     (c .count5 .ensures .0) (k .count4 .ensures .0)
 
 -- the rest of the path
@@ -63,7 +63,7 @@ rest c =
     let l = c .before in
     let at = l .loop in
     let start = l .before .before .before .before .before .before .before .before in
-    end-run (start .args .file .now) (start .args .sheet .now) (start .args .shape) (start .pre) (at .cache .cells) (at .cache .misses) (at .i) (at .at) (at .inv) (c .loop-test .left) (l .before .before .before .before .count .ensures .0) (l .before .before .count2 .ensures .0)
+    end-run (start .args .file .now) (start .args .sheet .now) (start .args .shape) (start .pre .0) (start .pre .1) (at .cache .cells) (at .cache .misses) (at .i) (at .at) (at .inv) (c .loop-test .left) (l .before .before .before .before .count .ensures .0) (l .before .before .count2 .ensures .0)
 
 shared-slice-read-count : tie.Need-shared-slice-read-count Inv-loop μ-loop
 shared-slice-read-count c = omega (arith, facts (c .before .before .before) .places .within)
@@ -87,7 +87,7 @@ loop-holds : tie.Need-loop-holds Inv-loop μ-loop
 unfolding nothing
 loop-holds c =
     let start = c .before .before .before .before .before .before .before in
-    run-start (start .args .file .now) (start .args .sheet .now) (start .args .shape) (start .pre) (c .cells .ensures) (c .before .count2 .ensures .0)
+    run-start (start .args .file .now) (start .args .sheet .now) (start .args .shape) (start .pre .0) (start .pre .1) (c .cells .ensures) (c .before .count2 .ensures .0)
 
 mul-count : tie.Need-mul-count Inv-loop μ-loop
 mul-count c = omega arith
@@ -124,9 +124,9 @@ run-task-requires c κs =
     let k = c .before in
     let start = k .before .before .before .before .before .before .before .before .before .before .before in
     let f = own k in (
-      start .pre .rules .file,
+      start .pre .0 .rules .file,
       f .there,
-      start .pre .blocks,
+      start .pre .1,
       f .below,
       omega (arith, f .few),
     )
@@ -178,9 +178,9 @@ run-task-requires-2 c κs =
     let k = c .before in
     let start = k .before .before .before .before .before .before .before .before .before .before .before .before .before .before .before .before .before .before in
     let f = by k in (
-      start .pre .rules .file,
+      start .pre .0 .rules .file,
       f .there,
-      start .pre .blocks,
+      start .pre .1,
       f .below,
       omega (arith, f .few),
     )
@@ -195,7 +195,7 @@ loop-again c =
     let l = k .before .before .before .before .before .before .before in
     let at = l .loop in
     let start = l .before .before .before .before .before .before .before .before in
-    run-turn (start .args .file .now) (start .args .sheet .now) (start .args .shape) (start .pre) (at .cache .cells) (at .cache .misses) (at .i) (at .at) (at .inv) (next (k .before .before .before .before .before .before)) (l .before .before .before .before .count .ensures .0) (k .before .before .before .before .count3 .ensures .0)
+    run-turn (start .args .file .now) (start .args .sheet .now) (start .args .shape) (start .pre .0) (start .pre .1) (at .cache .cells) (at .cache .misses) (at .i) (at .at) (at .inv) (next (k .before .before .before .before .before .before)) (l .before .before .before .before .count .ensures .0) (k .before .before .before .before .count3 .ensures .0)
     (m .count5 .ensures .0) (k .count4 .ensures .0) (k .before .before .run-task .ensures) (c .before .run-task2 .ensures)
 
 add-run-task-3 : tie.Need-add-run-task-3 Inv-loop μ-loop
@@ -221,9 +221,9 @@ run-task-requires-3 c κs =
     let k = c .before in
     let start = k .before .before .before .before .before .before .before .before .before in
     let f = rest k in (
-      start .pre .rules .file,
+      start .pre .0 .rules .file,
       f .there,
-      start .pre .blocks,
+      start .pre .1,
       f .below,
       omega (arith, f .few),
     )
@@ -234,7 +234,7 @@ returns c =
     let l = k .before in
     let at = l .loop in
     let start = l .before .before .before .before .before .before .before .before in
-    run-end (start .args .file .now) (start .args .sheet .now) (start .args .shape) (start .pre) (at .cache .cells) (at .cache .misses) (at .i) (at .at) (at .inv) (k .loop-test .left) (l .before .before .before .before .count .ensures .0) (l .before .before .count2 .ensures .0) (c .run-task3 .ensures)
+    run-end (start .args .file .now) (start .args .sheet .now) (start .args .shape) (start .pre .0) (start .pre .1) (at .cache .cells) (at .cache .misses) (at .i) (at .at) (at .inv) (k .loop-test .left) (l .before .before .before .before .count .ensures .0) (l .before .before .count2 .ensures .0) (c .run-task3 .ensures)
 
 pub disturbed-spec : {M : Type 1} → statement M
 disturbed-spec =

@@ -11,7 +11,7 @@ use Rattle.replay.proofs.counts.undisturbed.Statement.{statement}
 use Rattle.replay.proofs.counts.undisturbed.Tie as tie
 
 facts : (c : tie.Start) → SheetFacts (c .args .file .now) (c .args .sheet .now)
-facts c = sheet-facts (c .args .file .now) (c .args .sheet .now) (c .args .shape) (c .pre)
+facts c = sheet-facts (c .args .file .now) (c .args .sheet .now) (c .args .shape) (c .pre .0) (c .pre .1)
 
 shared-slice-read-count : tie.Need-shared-slice-read-count
 shared-slice-read-count c = omega (arith, facts (c .before .before .before) .places .within)
@@ -50,11 +50,11 @@ run-task-requires c κs =
     let sheet = start .args .sheet .now in
     let ep = k .count2 .ensures .0 in
     let el = k .before .before .before .count .ensures .0 in (
-      start .pre .rules .file,
+      start .pre .0 .rules .file,
       own-there file sheet (facts start) ep el,
-      start .pre .blocks,
-      quiet-below file sheet (start .args .shape) (start .pre) ep el,
-      omega (arith, quiet-few file sheet (start .args .shape) (start .pre) ep el),
+      start .pre .1,
+      quiet-below file sheet (start .args .shape) (start .pre .0) (start .pre .1) ep el,
+      omega (arith, quiet-few file sheet (start .args .shape) (start .pre .0) (start .pre .1) ep el),
     )
 
 returns : tie.Need-returns
@@ -64,7 +64,7 @@ returns c =
     let start = k .before .before .before .before .before .before .before in
     let file = start .args .file .now in
     let sheet = start .args .sheet .now in
-    quiet-end file sheet (start .args .shape) (start .pre) (k .count2 .ensures .0) (k .before .before .before .count .ensures .0) (k .before .before .cells .ensures) (c .run-task .ensures)
+    quiet-end file sheet (start .args .shape) (start .pre .0) (start .pre .1) (k .count2 .ensures .0) (k .before .before .before .count .ensures .0) (k .before .before .cells .ensures) (c .run-task .ensures)
 
 pub undisturbed-spec : {M : Type 1} → statement M
 undisturbed-spec =
