@@ -35,9 +35,8 @@ StrictlyRising [] = Unit {0}
 StrictlyRising (x ∷ []) = Unit {0}
 StrictlyRising (x ∷ y ∷ l) = (x < y) × StrictlyRising (y ∷ l)
 
--- a block of a task of B blocks: document 02, Point 1: "The flags byte of a block may be 1 .. Flags of 2 or more remain check 8."; document
--- 01: "successor count (0 to 4), reference count (0 to 16), the successors (.. below B, strictly
--- rising), the references (.. 0 to 65,534)"
+-- a block of a task of B blocks: "successor count (0 to 4), reference count (0 to 16), the successors (.. below B, strictly rising), the
+-- references (.. 0 to 65,534)"; Point 1: "The flags byte of a block may be 1 .. Flags of 2 or more remain check 8."
 pub record BlockInBounds (B : ℕ) (x : Block) : Type 0 where
   pub flags : x .flags ≤ 1
   pub successors : length (x .successors) ≤ 4
