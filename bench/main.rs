@@ -172,6 +172,16 @@ fn write(lines: &mut Lines) {
     }
 }
 
+/// Numbers, penalties and clocks: one of a release sheet, the longest time, and one that is refused.
+fn microseconds(lines: &mut Lines) {
+    lines.heading("Microseconds");
+    for (name, input) in [("typical", (6, 30, 72_000)), ("largest", (16, 1000, 1)), ("refused by 17", (17, 30, 72_000))] {
+        let (number, penalty, clock) = input;
+        assert_eq!(plain::microseconds(number, penalty, clock), proved::microseconds(number, penalty, clock), "{name}");
+        lines.line(name, &input, |&(n, p, c)| plain::microseconds(n, p, c), |&(n, p, c)| proved::microseconds(n, p, c));
+    }
+}
+
 /// The inputs that are to be refused fail the checks that they are made for.
 fn refused_as_meant() {
     let failed: Vec<u8> = files::refused_early().iter().map(|f| plain::replay(f, &[]).unwrap_err().0).collect();
@@ -185,6 +195,7 @@ fn refused_as_meant() {
         .map(|p| plain::write(p.n, &p.bodies, &p.lengths, &mut vec![0; p.room]).unwrap_err().0)
         .collect();
     assert_eq!(failed, WRITER_CHECKS);
+    assert_eq!(plain::microseconds(17, 30, 72_000), Err((17, 255)));
 }
 
 /// The other inputs are accepted, the writer gives back the files that its parts are made from, and masks change the table.
@@ -211,7 +222,7 @@ fn main() {
     refused_as_meant();
     accepted_as_meant();
     let mut lines = Lines::default();
-    for call in [table, states, replay, write] {
+    for call in [table, states, replay, write, microseconds] {
         call(&mut lines);
         println!();
     }

@@ -1,6 +1,6 @@
 //! The proved calls of the safe wrapper, each with the answers that its plain version has.
 use crate::plain;
-use crpd::{Misses, Refusal};
+use crpd::{Misses, Refusal, Time};
 
 pub fn table(file: &[u8], area: &mut [u16], numbers: &mut [u16]) -> Result<(), plain::Refusal> {
     crpd::table(file, area, numbers).map_err(Refusal::numbers)
@@ -17,4 +17,9 @@ pub fn replay(file: &[u8], sheet: &[u16]) -> Result<(u32, u32), plain::Refusal> 
 
 pub fn write(n: u8, bodies: &[u8], lengths: &[usize], out: &mut [u8]) -> Result<usize, plain::Refusal> {
     crpd::write(n, bodies, lengths, out).map_err(Refusal::numbers)
+}
+
+pub fn microseconds(number: u32, penalty: u32, clock: u32) -> Result<(u32, u32), plain::Refusal> {
+    let Time { whole, remainder } = crpd::microseconds(number, penalty, clock).map_err(Refusal::numbers)?;
+    Ok((whole, remainder))
 }

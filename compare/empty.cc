@@ -22,7 +22,7 @@ static const size_t lengths[] = {10, 7};
 
 static uint8_t *const no_bytes = NULL;
 static uint16_t *const no_numbers = NULL;
-static uint32_t *const no_misses = NULL;
+static uint32_t *const no_words = NULL;
 static size_t *const no_counts = NULL;
 
 static void read_and_body()
@@ -70,11 +70,16 @@ static void replay_and_write()
     size_t answer[CRPD_WRITE_LENGTH];
     expect("replay, file", CRPD_CHECK_FILE_LENGTH, crpd_replay(no_bytes, 0, sheet, 4, misses, CRPD_REPLAY_LENGTH));
     expect("replay, sheet", CRPD_CHECK_SHEET, crpd_replay(e, sizeof e, no_numbers, 0, misses, CRPD_REPLAY_LENGTH));
-    expect("replay, answer", CRPD_CHECK_LENGTHS, crpd_replay(e, sizeof e, sheet, 4, no_misses, 0));
+    expect("replay, answer", CRPD_CHECK_LENGTHS, crpd_replay(e, sizeof e, sheet, 4, no_words, 0));
     expect("write, bodies", CRPD_CHECK_CONTENTS, crpd_write(2, no_bytes, 0, lengths, 2, out, sizeof out, answer, 2));
     expect("write, lengths", CRPD_CHECK_TASKS, crpd_write(2, bodies, 17, no_counts, 0, out, sizeof out, answer, 2));
     expect("write, out", CRPD_CHECK_OUT_LENGTH, crpd_write(2, bodies, 17, lengths, 2, no_bytes, 0, answer, 2));
     expect("write, answer", CRPD_CHECK_LENGTHS, crpd_write(2, bodies, 17, lengths, 2, out, sizeof out, no_counts, 0));
+}
+
+static void microseconds()
+{
+    expect("microseconds, answer", CRPD_CHECK_LENGTHS, crpd_microseconds(1, 1, 1, no_words, 0));
 }
 
 int main()
@@ -83,5 +88,6 @@ int main()
     states_and_row();
     table();
     replay_and_write();
+    microseconds();
     return failed;
 }

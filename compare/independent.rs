@@ -1,4 +1,4 @@
-//! Document 01 with Point 1 of document 02 once more, in plain Rust: by paths, and with sets of rows. Written from the
+//! Document 01 with Points 1 and 2 of document 02 once more, in plain Rust: by paths, and with sets of rows. Written from the
 //! documents alone, to compare with.
 use std::collections::BTreeSet;
 
@@ -410,4 +410,14 @@ pub fn replay(file: &[u8], sheet: &[u16]) -> Result<(u32, u32), Refusal> {
         return Err((16, 255));
     }
     Ok((run(&project, &sheet.run, &[]), run(&project, &sheet.run, &sheet.preemptions)))
+}
+
+/// Microseconds: whole ones, and the remainder.
+pub fn microseconds(number: u32, penalty: u32, clock: u32) -> Result<(u32, u32), Refusal> {
+    if number > 16 || !(1..=1000).contains(&penalty) || !(1..=1_000_000).contains(&clock) {
+        return Err((17, 255));
+    }
+    let product = u64::from(number) * u64::from(penalty) * 1000;
+    let whole = product / u64::from(clock);
+    Ok((whole as u32, (product - whole * u64::from(clock)) as u32))
 }

@@ -2,12 +2,12 @@
 mod generate;
 mod independent;
 
-use crpd::{calls, Head, Misses, Refusal};
+use crpd::{calls, Head, Misses, Refusal, Time};
 use generate::{
     changed_sheet, damaged, damaged_sheet, longest, loop_sheet, loops, made, masked_sheet, sheet, Made, Random, DAMAGES,
 };
 use independent::{Block, AREA};
-use std::collections::BTreeMap;
+use std::collections::{BTreeMap, BTreeSet};
 use std::fmt::Debug;
 
 /// The files that are made if no argument says how many.
@@ -46,7 +46,7 @@ impl Report {
         println!("cases by the check that was answered (0: done)");
         for (call, checks) in &self.cases {
             let counts: Vec<String> = checks.iter().map(|(check, count)| format!("{check}: {count}")).collect();
-            println!("{call:12} {:7}   {}", checks.values().sum::<usize>(), counts.join(", "));
+            println!("{call:17} {:7}   {}", checks.values().sum::<usize>(), counts.join(", "));
         }
         let all: usize = self.cases.values().flat_map(BTreeMap::values).sum();
         match &self.smallest {
@@ -324,12 +324,16 @@ fn compare_refused(report: &mut Report, file: &[u8], sheet: &[u16], check: u8) {
     report.add("broken sheet", check, file, format!("{sheet:?}"), vec![differ("status", &[(check, 255)], &[found])]);
 }
 
+/// A table that was refused keeps what it held.
+fn filled(table: &[u16]) -> bool {
+    table[0] == 0
+}
+
 /// Runs of a file by the proved replay, valid and broken ones; none misses more than the proved table allows.
 fn compare_runs(report: &mut Report, random: &mut Random, made: &Made, file: &[u8], table: &[u16]) {
     let (sheet, preempting) = sheet(random, &made.tasks);
     let answer = compare_replay(report, file, &sheet, 3);
-    // a table that was refused keeps what it held
-    if table[0] == 0 {
+    if filled(table) {
         let p = sheet[0] as usize;
         let allowed: u32 = preempting.iter().map(|&j| table[8 * p + j] as u32).sum();
         let kept = answer[1] <= answer[2] && answer[2] <= answer[1] + allowed;
@@ -352,6 +356,49 @@ fn compare_runs(report: &mut Report, random: &mut Random, made: &Made, file: &[u
     compare_replay(report, file, &sheet, random.pick(&[0, 1, 2, 4]));
 }
 
+fn compare_microseconds(report: &mut Report, number: u32, penalty: u32, clock: u32, places: usize) {
+    let mut found = vec![OLD_WIDE; places];
+    let status = calls::microseconds(number, penalty, clock, &mut found);
+    let (mut check, mut expected) = (1, vec![OLD_WIDE; places]);
+    let mut faults = vec![];
+    if places == 3 {
+        let answer = independent::microseconds(number, penalty, clock);
+        let (whole, remainder) = answer.unwrap_or((0, 0));
+        check = told(&answer).0;
+        expected = vec![told(&answer).1 as u32, whole, remainder];
+        let wrapped = crpd::microseconds(number, penalty, clock).map(|Time { whole, remainder }| (whole, remainder));
+        faults.push(differ("result", &[answer], &[wrapped.map_err(Refusal::numbers)]));
+    }
+    faults.extend([differ("status", &[check], &[status]), differ("answer", &expected, &found)]);
+    let arguments = format!("number {number}, penalty {penalty}, clock {clock}, answer of {places}");
+    report.add("crpd_microseconds", check, &[], arguments, faults);
+}
+
+/// Every number up to the bound and next to it, with each penalty and clock at a bound or next to it, and lists of a wrong
+/// length.
+fn compare_times(report: &mut Report) {
+    for number in (0..=18).chain([u32::MAX - 1, u32::MAX]) {
+        for penalty in [0, 1, 2, 999, 1000, 1001, u32::MAX] {
+            for clock in [0, 1, 2, 3, 999_999, 1_000_000, 1_000_001, u32::MAX] {
+                compare_microseconds(report, number, penalty, clock, 3);
+            }
+        }
+        for places in [0, 1, 2, 4, 5] {
+            compare_microseconds(report, number, 1, 3, places);
+        }
+    }
+}
+
+/// The times of the numbers of a table, none of which is refused.
+fn compare_table_times(report: &mut Report, random: &mut Random, file: &[u8], table: &[u16]) {
+    for &number in BTreeSet::from_iter(table) {
+        let (penalty, clock) = (1 + random.below(1000) as u32, 1 + random.below(1_000_000) as u32);
+        compare_microseconds(report, number.into(), penalty, clock, 3);
+        let refused = crpd::microseconds(number.into(), penalty, clock).err().map(|refusal| refusal.to_string());
+        report.add("table times", 0, file, format!("number {number}, penalty {penalty}, clock {clock}"), vec![refused]);
+    }
+}
+
 /// Sheets with a length or a count at its limit or next to it, without and with a masked block.
 fn compare_sheet_limits(report: &mut Report) {
     for file in [loops(false).file(), loops(true).file()] {
@@ -365,7 +412,7 @@ fn compare_sheet_limits(report: &mut Report) {
     }
 }
 
-/// The examples of document 01, and the same file with flags, hold of the independent implementation.
+/// The examples of document 01, the same file with flags, and three times hold of the independent implementation.
 fn examples() {
     let block = |successors: &[usize], references: &[u16]| Block {
         masked: false,
@@ -391,6 +438,9 @@ fn examples() {
     assert_eq!(independent::replay(&masked, &[0, 2, 0, 0, 0]), Ok((2, 2)));
     assert_eq!(independent::replay(&masked, &[1, 1, 0, 1, 0, 0, 1, 0]), Ok((1, 1)));
     assert_eq!(independent::table(&with_flags(2), AREA, &mut table), Err((8, 0)));
+    assert_eq!(independent::microseconds(1, 1, 3), Ok((333, 1)));
+    assert_eq!(independent::microseconds(16, 1000, 1), Ok((16_000_000, 0)));
+    assert_eq!(independent::microseconds(17, 1000, 1), Err((17, 255)));
 }
 
 /// A valid file: every call with lists of the right length, every task and some that aren't there.
@@ -410,6 +460,9 @@ fn compare_made(report: &mut Report, random: &mut Random, made: &Made, seed: u64
     let table = compare_table(report, &file, AREA, 64, 1);
     for _ in 0..4 {
         compare_runs(report, random, made, &file, &table);
+    }
+    if filled(&table) {
+        compare_table_times(report, random, &file, &table);
     }
     compare_writing(report, random, made);
     if seed % 8 == 0 {
@@ -443,6 +496,7 @@ fn main() {
     compare_made(&mut report, &mut Random::new(0), &whole, 0);
     compare_file(&mut report, &[file.as_slice(), &[0]].concat(), 0);
     compare_sheet_limits(&mut report);
+    compare_times(&mut report);
     for seed in 0..files {
         let mut random = Random::new(seed);
         let made = made(&mut random);

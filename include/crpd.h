@@ -7,7 +7,7 @@
  * call writes to one of them. The pointer of a list of 0 elements is never followed and may be null, as that of an
  * empty std::vector may be. Any other must not be null.
  *
- * Answers. Each call answers 0 when it is done, or the number of the check that fails first, 1 to 16 (below). What
+ * Answers. Each call answers 0 when it is done, or the number of the check that fails first, 1 to 17 (below). What
  * else it has to say stands in its last list (answer, named or found). A last list of another length than the one
  * named here is refused with 1 before anything else, and then no list is written, the last one too: a caller that
  * prints a task after that prints what the list held before. After every other answer each place of the last list
@@ -54,6 +54,8 @@ extern "C" {
  *  14  the out list is shorter than the file
  *  15  the task is not below t
  *  16  a preemption in the run sheet comes after a masked block
+ *  17  a number of misses is over 16, a miss penalty outside 1 to
+ *      1,000 or a clock outside 1 to 1,000,000
  */
 enum crpd_status {
     CRPD_DONE = 0,
@@ -72,7 +74,8 @@ enum crpd_status {
     CRPD_CHECK_SHEET_PATHS = 13,
     CRPD_CHECK_OUT_LENGTH = 14,
     CRPD_CHECK_TASK = 15,
-    CRPD_CHECK_MASKED = 16
+    CRPD_CHECK_MASKED = 16,
+    CRPD_CHECK_MICROSECONDS = 17
 };
 
 #define CRPD_NO_TASK 255  /* where a check names no task, and where a call is done */
@@ -104,12 +107,18 @@ enum crpd_status {
 #define CRPD_PREEMPTIONS 16     /* the most preemptions */
 #define CRPD_SHEET_LENGTH 1139  /* numbers of the longest sheet: 67 for the task, and 67 for each preemption */
 
+/* Microseconds. */
+#define CRPD_NUMBER 16      /* the largest pair number */
+#define CRPD_PENALTY 1000   /* the largest miss penalty, in cycles; the smallest is 1 */
+#define CRPD_CLOCK 1000000  /* the fastest clock, in kHz; the slowest is 1 */
+
 /* Lengths of the last list of each call. */
-#define CRPD_READ_LENGTH 3    /* answer of crpd_read */
-#define CRPD_PLACE_LENGTH 2   /* found of crpd_body and crpd_row */
-#define CRPD_NAMED_LENGTH 1   /* named of crpd_states and crpd_table */
-#define CRPD_REPLAY_LENGTH 3  /* answer of crpd_replay */
-#define CRPD_WRITE_LENGTH 2   /* answer of crpd_write */
+#define CRPD_READ_LENGTH 3          /* answer of crpd_read */
+#define CRPD_PLACE_LENGTH 2         /* found of crpd_body and crpd_row */
+#define CRPD_NAMED_LENGTH 1         /* named of crpd_states and crpd_table */
+#define CRPD_REPLAY_LENGTH 3        /* answer of crpd_replay */
+#define CRPD_WRITE_LENGTH 2         /* answer of crpd_write */
+#define CRPD_MICROSECONDS_LENGTH 3  /* answer of crpd_microseconds */
 
 /*
  * Reader: n and t of a file. Checks 2 to 10.
@@ -213,6 +222,18 @@ uint8_t crpd_replay(
 uint8_t crpd_write(
     uint8_t n, const uint8_t *bodies, size_t bodies_length, const size_t *lengths, size_t lengths_length,
     uint8_t *out, size_t out_length, size_t *answer, size_t answer_length);
+
+/*
+ * Microseconds: the time that the misses of a pair number take. Check 17 alone, ahead of any arithmetic.
+ * number: the misses, 0 to CRPD_NUMBER; every number of a table of crpd_table is one of these. penalty: the cycles of
+ * one miss, 1 to CRPD_PENALTY. clock: in kHz, 1 to CRPD_CLOCK. Any other number is refused with 17.
+ * answer: CRPD_MICROSECONDS_LENGTH places. Nothing is rounded: number * penalty * 1000 is q * clock + r, and the time
+ * is q + r / clock microseconds:
+ *   0: CRPD_NO_TASK
+ *   1: q, the whole microseconds; 0 after a refusal
+ *   2: r, the remainder, below the clock; 0 after a refusal
+ */
+uint8_t crpd_microseconds(uint32_t number, uint32_t penalty, uint32_t clock, uint32_t *answer, size_t answer_length);
 
 #ifdef __cplusplus
 }

@@ -13,7 +13,7 @@ pub const NOTHING: u16 = 65535;
 /// In the answers of the calls for C: no task.
 const NO_TASK: u8 = 255;
 
-/// The check that fails first, 1 to 16, and the task that it names.
+/// The check that fails first, 1 to 17, and the task that it names.
 #[derive(Clone, Copy, Debug, PartialEq, Eq)]
 pub struct Refusal {
     pub check: u8,
@@ -55,6 +55,13 @@ pub struct Head {
 pub struct Misses {
     pub undisturbed: u32,
     pub disturbed: u32,
+}
+
+/// A time, not rounded: `whole` + `remainder` / clock microseconds, with the remainder below the clock in kHz.
+#[derive(Clone, Copy, Debug, PartialEq, Eq)]
+pub struct Time {
+    pub whole: u32,
+    pub remainder: u32,
 }
 
 /// `done` where the status is 0, else the refusal.
@@ -126,6 +133,16 @@ pub fn write(n: u8, bodies: &[u8], lengths: &[usize], out: &mut [u8]) -> Result<
     result(status, task as u8, length)
 }
 
+/// Microseconds: the time of `number` misses of `penalty` cycles each at a clock of `clock` kHz. Check 17.
+#[inline]
+pub fn microseconds(number: u32, penalty: u32, clock: u32) -> Result<Time, Refusal> {
+    let mut answer = [0; 3];
+    let status = calls::microseconds(number, penalty, clock, &mut answer);
+    let [task, whole, remainder] = answer;
+    // a task that is named is a byte
+    result(status, task as u8, Time { whole, remainder })
+}
+
 /// The calls as include/crpd.h has them: each answers its status, and puts the rest into its last list, which has a
 /// fixed length. A slice passes as a pointer and a number of elements.
 pub mod calls {
@@ -153,6 +170,7 @@ pub mod calls {
             n: u8, bodies: *const u8, bodies_length: usize, lengths: *const usize, lengths_length: usize,
             out: *mut u8, out_length: usize, answer: *mut usize, answer_length: usize,
         ) -> u8;
+        fn crpd_microseconds(number: u32, penalty: u32, clock: u32, answer: *mut u32, answer_length: usize) -> u8;
     }
 
     // In each call below the pointers and the numbers of elements are those of slices, and slices that are written to
@@ -209,5 +227,10 @@ pub mod calls {
                 out.as_mut_ptr(), out.len(), answer.as_mut_ptr(), answer.len(),
             )
         }
+    }
+
+    #[inline]
+    pub fn microseconds(number: u32, penalty: u32, clock: u32, answer: &mut [u32]) -> u8 {
+        unsafe { crpd_microseconds(number, penalty, clock, answer.as_mut_ptr(), answer.len()) }
     }
 }

@@ -1,10 +1,12 @@
 //! The calls the plain way: vectors, ordered sets and work lists, as one would write them in an afternoon.
 //! Here stands what they share: the reader and the states of a task.
+mod microseconds;
 mod replay;
 mod states;
 mod table;
 mod write;
 
+pub use microseconds::microseconds;
 pub use replay::replay;
 pub use states::states;
 pub use table::table;

@@ -1,4 +1,5 @@
 pub mod Papers
 pub mod Demand
 pub mod Neighbours
+pub mod Times
 mod Sheets

@@ -1,3 +1,4 @@
 pub mod Files
 pub mod Papers
 pub mod Demand
+pub mod Times

@@ -1,6 +1,6 @@
 -- What the functions for C leave in a list of a fixed number of places, and what they answer, case by case.
 -- The idea: a list of k places is the numbers that were written; a list of another length is told by the test.
-use mathlib.Core.Path.{_≡_, refl, ap, _∙_}
+use mathlib.Core.Path.{_≡_, refl, sym, ap, _∙_}
 use mathlib.Core.Bool.{true, false, cond}
 use mathlib.Core.List.{List, [], _∷_}
 use Prim.Native.Nat.{ℕ}
@@ -37,9 +37,22 @@ module _ (k : ℕ) (answer : List ℕ) (h : length answer ≡ k) where
   pub leaving : {new after : List ℕ} (old : List ℕ) → new ≡ after → new ≡ cond (places k answer) after old
   leaving old q = rw right q
 
+-- an answer told by a match: `told` is the call's answer, `met` the case that the match meets, `new` what was put into the list
+pub answered :
+    {A : Type 0} (statusOf : A → ℕ) (numbersOf : A → List ℕ) (k : ℕ) (answer : List ℕ) → length answer ≡ k →
+    {told call met : A} → told ≡ call → told ≡ met → {new : List ℕ} → new ≡ numbersOf met →
+    (statusOf met ≡ cond (places k answer) (statusOf call) 1) × (new ≡ cond (places k answer) (numbersOf call) answer)
+answered statusOf numbersOf k answer h {told} {call} {met} e case q =
+    let same : met ≡ call = sym case ∙ e in
+    (status k answer h (ap statusOf same), leaving k answer h answer (q ∙ ap numbersOf same))
+
 pub naming : (named : List ℕ) → length named ≡ 1 → {v w : ℕ} → v ≡ w → set named 0 v ≡ cond (places 1 named) (w ∷ []) named
 naming named h {v} q = leaving 1 named h named (one-set named v h ∙ ap (λ (x : ℕ). x ∷ []) q)
 
 -- two numbers written, each told by an equation
 pub both : {l : List ℕ} {a b x y : ℕ} → l ≡ a ∷ b ∷ [] → a ≡ x → b ≡ y → l ≡ x ∷ y ∷ []
 both {b = b} {x} e p q = e ∙ ap (λ (z : ℕ). z ∷ b ∷ []) p ∙ ap (λ (z : ℕ). x ∷ z ∷ []) q
+
+-- the task named, told by an equation, before other numbers
+pub first : {l ns : List ℕ} {a x : ℕ} → l ≡ a ∷ ns → a ≡ x → l ≡ x ∷ ns
+first {ns = ns} e p = e ∙ ap (λ (z : ℕ). z ∷ ns) p

@@ -5,3 +5,4 @@ pub mod Status
 pub mod Table
 pub mod Write
 pub mod Replay
+pub mod Microseconds

@@ -5,6 +5,7 @@ mod put;
 pub mod read;
 pub mod row_place;
 pub mod run_counts;
+pub mod time;
 pub mod write;
 
 ghost use mathlib.Core.Path.{_≡_};

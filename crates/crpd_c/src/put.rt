@@ -22,8 +22,8 @@ pub fn put_two(list: &mut [usize], first: usize, second: usize)
     list[1] = second;
 }
 
-// Three counts of misses.
-pub fn put_counts(list: &mut [u32], first: u32, second: u32, third: u32)
+// Three words.
+pub fn put_words(list: &mut [u32], first: u32, second: u32, third: u32)
     requires { ⌜ length (now list) ≡ 3 ⌝ }
     ensures { λ _. ⌜ now (list .exit) ≡ first ∷ second ∷ third ∷ [] ⌝ }
 {

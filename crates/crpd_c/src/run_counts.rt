@@ -1,7 +1,7 @@
 // Replay for C.
 ghost use mathlib.Core.Path.{_≡_};
 ghost use Rattle.crpd_c.specs.Replay.{replayStatus, replayLeft};
-use crate::put::put_counts;
+use crate::put::put_words;
 use cache::numbers::byte_word;
 use project::answers::NO_TASK;
 use replay::Replaying;
@@ -22,11 +22,11 @@ pub extern "C" fn crpd_replay(file: &[u8], sheet: &[u16], answer: &mut [u32]) ->
             undisturbed,
             disturbed,
         } => {
-            put_counts(answer, NO_TASK as u32, undisturbed, disturbed);
+            put_words(answer, NO_TASK as u32, undisturbed, disturbed);
             0
         }
         Replaying::Refused { check, task } => {
-            put_counts(answer, byte_word(task), 0, 0);
+            put_words(answer, byte_word(task), 0, 0);
             check
         }
     }

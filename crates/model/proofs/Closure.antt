@@ -8,13 +8,10 @@ use Prim.Native.Nat.{ℕ, zero, suc, _+_, _≤_, _<_}
 use native.Mathlib.Omega.{arith}
 use lib.ListN.{length}
 use Rattle.cache.specs.Sum.{bit}
+use Rattle.cache.proofs.Sums.{bit-le}
 use Rattle.model.specs.Lists.{mem}
 use Rattle.model.specs.Computed.{addIf, addAll, sub, nexts, close}
 use Rattle.model.proofs.Membership.{or-cases, or-left, or-right, both-left, both-right, mem-append-left, mem-append-right, mem-append-cases}
-
-bit-le : (b : Bool) → bit b ≤ 1
-bit-le true = omega arith
-bit-le false = omega arith
 
 bit-not-le : (a b : Bool) → (a ≡ true → b ≡ true) → bit (not b) ≤ bit (not a)
 bit-not-le true b h = rw (h refl) (omega arith)

@@ -3,7 +3,7 @@
 -- The idea: a largest value bounds each value and is one of them or 0; the lists hold exactly the rows of paths.
 use mathlib.Core.Path.{_≡_, refl, sym, _∙_}
 use mathlib.Core.Logic.{_⊎_, inl, inr, _↔_}
-use mathlib.Core.Bool.{Bool, true, false, cond, false≢true}
+use mathlib.Core.Bool.{Bool, true, false, _&&_, cond, false≢true}
 use mathlib.Core.List.{List, [], _∷_}
 use Prim.Native.Nat.{ℕ, _≤_, _<_, max}
 use native.Mathlib.Nat.{le-trans}
@@ -12,7 +12,8 @@ use lib.Dec.{eqb, ltb}
 use lib.ListN.{length}
 use borrow.Author.Tests.{eqb-true, eq-eqb, ltb-true, ltb-false}
 use Rattle.cache.specs.Cache.{Cache}
-use Rattle.cache.specs.Sets.{usefulUsed}
+use Rattle.cache.specs.Sets.{useful, used, usefulUsed}
+use Rattle.cache.proofs.Sums.{count-le}
 use Rattle.model.specs.Lists.{mem, best}
 use Rattle.model.specs.Tasks.{Block, Task, block, Unmasked, SomeUnmasked, end}
 use Rattle.model.specs.States.{Reaches, Lives}
@@ -163,6 +164,14 @@ pair-is k i j = unmasked-most (usefulUsed k) k i j
 
 pub over-all-is : (k : Cache) (i j : Task) → NumberOverAll k i j (most (usefulUsed k) k i j (λ b. true))
 over-all-is k i j = most-is (usefulUsed k) k i j (λ (b : ℕ). Unit {0}) (λ b. true) (λ b. (λ e. tt, λ u. refl))
+
+-- no pair number is over the number of places of a row
+pub pair-le : (k : Cache) (i j : Task) → pairNumber k i j ≤ k .width
+pair-le k i j = go (pair-is k i j .attained)
+  where
+    go : (pairNumber k i j ≡ 0) ⊎ ((rows : Rows k i j) × Unmasked i (rows .at) × (counted (usefulUsed k) rows ≡ pairNumber k i j)) → pairNumber k i j ≤ k .width
+    go (inl z) = omega arith
+    go (inr (rows, free, e)) = omega (arith, e, count-le (k .width) (λ c. useful (rows .reaching) (rows .live) c && used (rows .ending) c))
 
 -- a task without masked blocks has the numbers of document 01 alone
 pub without-masks : (k : Cache) (i j : Task) → ((b : ℕ) → b < length i → Unmasked i b) → NumberOverAll k i j (pairNumber k i j)

@@ -1,14 +1,14 @@
 -- What the references of a path do to the row and to the count: the row is that of all its references, and each block adds at most 16.
 -- Each is an induction on the references or on the path.
 use mathlib.Core.Path.{_≡_, refl, sym, ap, _∙_}
-use mathlib.Core.Bool.{Bool, true, false, not}
+use mathlib.Core.Bool.{not}
 use mathlib.Core.List.{List, [], _∷_}
 use Prim.Native.Nat.{ℕ, zero, suc, _+_, _*_, _≤_}
 use native.Mathlib.Omega.{arith}
 use lib.ListN.{length}
-use Rattle.cache.specs.Sum.{bit}
 use Rattle.cache.specs.Cache.{Cache, hits, withReferences}
 use Rattle.cache.proofs.Rows.{withReferences-append}
+use Rattle.cache.proofs.Sums.{bit-le}
 use Rattle.model.specs.Lists.{Each}
 use Rattle.model.specs.Tasks.{Block, Task, block, references}
 use Rattle.model.specs.Runs.{RowCount, ownReferences}
@@ -30,13 +30,9 @@ path-row k t (b ∷ p) s =
 
 -- ---- the count
 
-at-most-one : (b : Bool) → bit (not b) ≤ 1
-at-most-one true = omega arith
-at-most-one false = omega arith
-
 pub own-bound : (k : Cache) (ms : List ℕ) (s : RowCount) → ownReferences k s ms .count ≤ s .count + length ms
 own-bound k [] s = omega arith
-own-bound k (m ∷ ms) s = omega (arith, own-bound k ms (withOwn k s m), at-most-one (hits k (s .row) m))
+own-bound k (m ∷ ms) s = omega (arith, own-bound k ms (withOwn k s m), bit-le (not (hits k (s .row) m)))
 
 pub few-references : (t : Task) → InBounds t → (b : ℕ) → length (block t b .references) ≤ 16
 few-references t h b = go t (h .each) b

@@ -1,8 +1,7 @@
 -- `crpd_read` meets its contract: it answers what Reader answers, in numbers. Assumes nothing.
 -- The idea: the enum's case that the match meets is the answer of Reader.
-use mathlib.Core.Path.{sym, ap, _∙_}
 use Rattle.crpd_c.specs.Read.{statusOfReading, numbersOfReading}
-use Rattle.crpd_c.proofs.Answers.{wrong, status, leaving}
+use Rattle.crpd_c.proofs.Answers.{wrong, answered}
 use borrow.Author.Needs.{needs}
 use Rattle.crpd_c.proofs.read.crpd_read.Statement.{statement}
 use Rattle.crpd_c.proofs.read.crpd_read.Tie as tie
@@ -34,8 +33,9 @@ returns-2 : tie.Need-returns-2
 returns-2 c =
     let answer = c .before .before .before .before .before .before .before .before .before .before .before .args .answer .now in
     let h = c .before .before .before .before .before .before .before .before .if1 .left in
-    let e = sym (c .before .before .before .before .before .before .before .read .ensures) ∙ c .before .before .before .before .before .n .given .1 in
-    (status 3 answer h (sym (ap statusOfReading e)), leaving 3 answer h answer (c .before .before .put-three .ensures ∙ sym (ap numbersOfReading e)))
+    let told = c .before .before .before .before .before .before .before .read .ensures in
+    let met = c .before .before .before .before .before .n .given .1 in
+    answered statusOfReading numbersOfReading 3 answer h told met (c .before .before .put-three .ensures)
 
 same-length-2 : tie.Need-same-length-2
 same-length-2 c = search needs
@@ -44,8 +44,9 @@ returns-3 : tie.Need-returns-3
 returns-3 c =
     let answer = c .before .before .before .before .before .before .before .before .before .before .before .args .answer .now in
     let h = c .before .before .before .before .before .before .before .before .if1 .left in
-    let e = sym (c .before .before .before .before .before .before .before .read .ensures) ∙ c .before .before .before .before .before .check .given .1 in
-    (status 3 answer h (sym (ap statusOfReading e)), leaving 3 answer h answer (c .before .before .put-three2 .ensures ∙ sym (ap numbersOfReading e)))
+    let told = c .before .before .before .before .before .before .before .read .ensures in
+    let met = c .before .before .before .before .before .check .given .1 in
+    answered statusOfReading numbersOfReading 3 answer h told met (c .before .before .put-three2 .ensures)
 
 pub crpd-read-spec : {M : Type 1} → statement M
 crpd-read-spec =

@@ -1,10 +1,7 @@
 -- `crpd_replay` meets its contract: it answers what Replay answers, in numbers. Assumes nothing.
 -- The idea: the enum's case that the match meets is the answer of Replay.
-use mathlib.Core.Path.{sym, ap, _∙_}
-use mathlib.Core.List.{[], _∷_}
-use Prim.Native.Nat.{ℕ}
 use Rattle.crpd_c.specs.Replay.{statusOfReplaying, numbersOfReplaying}
-use Rattle.crpd_c.proofs.Answers.{wrong, status, leaving}
+use Rattle.crpd_c.proofs.Answers.{wrong, answered, first}
 use borrow.Author.Needs.{needs}
 use Rattle.crpd_c.proofs.run_counts.crpd_replay.Statement.{statement}
 use Rattle.crpd_c.proofs.run_counts.crpd_replay.Tie as tie
@@ -20,11 +17,11 @@ replay-requires c κs = search needs
 enum-known-undisturbed : tie.Need-enum-known-undisturbed
 enum-known-undisturbed c = search needs
 
-cast-put-counts : tie.Need-cast-put-counts
-cast-put-counts c = search needs
+cast-put-words : tie.Need-cast-put-words
+cast-put-words c = search needs
 
-put-counts-requires : tie.Need-put-counts-requires
-put-counts-requires c κs = search needs
+put-words-requires : tie.Need-put-words-requires
+put-words-requires c κs = search needs
 
 enum-known-check : tie.Need-enum-known-check
 enum-known-check c = search needs
@@ -32,8 +29,8 @@ enum-known-check c = search needs
 byte-word-requires : tie.Need-byte-word-requires
 byte-word-requires c κs = search needs
 
-put-counts-requires-2 : tie.Need-put-counts-requires-2
-put-counts-requires-2 c κs = search needs
+put-words-requires-2 : tie.Need-put-words-requires-2
+put-words-requires-2 c κs = search needs
 
 same-length : tie.Need-same-length
 same-length c = search needs
@@ -42,8 +39,9 @@ returns-2 : tie.Need-returns-2
 returns-2 c =
     let answer = c .before .before .before .before .before .before .before .before .before .before .before .before .args .answer .now in
     let h = c .before .before .before .before .before .before .before .before .if1 .left in
-    let e = sym (c .before .before .before .before .before .before .before .replay .ensures) ∙ c .before .before .before .before .before .undisturbed .given .1 in
-    (status 3 answer h (sym (ap statusOfReplaying e)), leaving 3 answer h answer (c .before .before .put-counts .ensures ∙ sym (ap numbersOfReplaying e)))
+    let told = c .before .before .before .before .before .before .before .replay .ensures in
+    let met = c .before .before .before .before .before .undisturbed .given .1 in
+    answered statusOfReplaying numbersOfReplaying 3 answer h told met (c .before .before .put-words .ensures)
 
 same-length-2 : tie.Need-same-length-2
 same-length-2 c = search needs
@@ -52,9 +50,9 @@ returns-3 : tie.Need-returns-3
 returns-3 c =
     let answer = c .before .before .before .before .before .before .before .before .before .before .before .before .before .args .answer .now in
     let h = c .before .before .before .before .before .before .before .before .before .if1 .left in
-    let e = sym (c .before .before .before .before .before .before .before .before .replay .ensures) ∙ c .before .before .before .before .before .before .check .given .1 in
-    let named = ap (λ (x : ℕ). x ∷ 0 ∷ 0 ∷ []) (c .before .before .before .byte-word .ensures .0) in
-    (status 3 answer h (sym (ap statusOfReplaying e)), leaving 3 answer h answer (c .before .before .put-counts2 .ensures ∙ named ∙ sym (ap numbersOfReplaying e)))
+    let told = c .before .before .before .before .before .before .before .before .replay .ensures in
+    let met = c .before .before .before .before .before .before .check .given .1 in
+    answered statusOfReplaying numbersOfReplaying 3 answer h told met (first (c .before .before .put-words2 .ensures) (c .before .before .before .byte-word .ensures .0))
 
 pub crpd-replay-spec : {M : Type 1} → statement M
 crpd-replay-spec =
@@ -63,11 +61,11 @@ crpd-replay-spec =
     returns
     replay-requires
     enum-known-undisturbed
-    cast-put-counts
-    put-counts-requires
+    cast-put-words
+    put-words-requires
     enum-known-check
     byte-word-requires
-    put-counts-requires-2
+    put-words-requires-2
     same-length
     returns-2
     same-length-2

@@ -1,7 +1,6 @@
 -- `crpd_write` meets its contract: it answers what Writer answers, in numbers. Assumes nothing.
 -- The idea: the enum's case that the match meets is the answer of Writer.
-use mathlib.Core.Path.{refl}
-use Rattle.crpd_c.proofs.Answers.{wrong, both}
+use Rattle.crpd_c.proofs.Answers.{wrong, first}
 use Rattle.crpd_c.proofs.Written.{written}
 use borrow.Author.Needs.{needs}
 use Rattle.crpd_c.proofs.write.crpd_write.Statement.{statement}
@@ -55,7 +54,7 @@ returns-3 : tie.Need-returns-3
 returns-3 c =
     let args = c .before .before .before .before .before .before .before .before .before .before .before .before .before .before .before .before .before .args in
     let call = c .before .before .before .before .before .before .before .before .before .before .write .ensures in
-    written (args .n) (args .bodies .now) (args .lengths .now) (args .out .now) (args .answer .now) (c .before .before .before .before .before .before .before .before .before .before .before .before .if1 .left) (call .0) (c .before .before .before .before .before .before .check .given .1) (call .1) (both (c .before .before .put-two2 .ensures) (c .before .before .before .byte-count .ensures .0) refl)
+    written (args .n) (args .bodies .now) (args .lengths .now) (args .out .now) (args .answer .now) (c .before .before .before .before .before .before .before .before .before .before .before .before .if1 .left) (call .0) (c .before .before .before .before .before .before .check .given .1) (call .1) (first (c .before .before .put-two2 .ensures) (c .before .before .before .byte-count .ensures .0))
 
 pub crpd-write-spec : {M : Type 1} → statement M
 crpd-write-spec =

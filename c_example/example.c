@@ -1,0 +1,72 @@
+#include "example.h"
+
+#include <stdio.h>
+
+/* When a check of a file or of a time fails. */
+static const char *meaning(uint8_t check)
+{
+    switch (check) {
+    case CRPD_CHECK_FILE_LENGTH: return "the file has under 8 or over 7,544 bytes";
+    case CRPD_CHECK_MARK: return "the first four bytes are not CRPD";
+    case CRPD_CHECK_EDITION: return "the edition is not 1";
+    case CRPD_CHECK_CACHE_BLOCKS: return "the number of cache blocks is outside 1 to 16";
+    case CRPD_CHECK_TASKS: return "the number of tasks is outside 1 to 8, or byte 7 is not 0";
+    case CRPD_CHECK_CONTENTS: return "an offset or a length in the contents is wrong";
+    case CRPD_CHECK_LAYOUT: return "a body breaks its layout";
+    case CRPD_CHECK_COMPLETE_PATHS: return "a block is on no complete path";
+    case CRPD_CHECK_SHARED: return "a memory block is shared with an earlier task";
+    case CRPD_CHECK_STATES: return "a block has 33 or more reaching or live states";
+    case CRPD_CHECK_MICROSECONDS: return "the penalty is outside 1 to 1,000 or the clock outside 1 to 1,000,000";
+    default: return "a list is of another length";
+    }
+}
+
+void print_refusal(uint8_t check, uint8_t task)
+{
+    printf("refused %d task %d\n", check, task);
+    fprintf(stderr, "check %d: %s", check, meaning(check));
+    if (task != CRPD_NO_TASK) {
+        fprintf(stderr, ", in task %d", task);
+    }
+    fprintf(stderr, "\n");
+}
+
+/* Reads the file to the front of a list of the longest file's length and one more, so that a longer one is refused. */
+static int read_file(const char *name, uint8_t *file, size_t *length)
+{
+    FILE *input = fopen(name, "rb");
+    if (input == NULL) {
+        perror(name);
+        return 0;
+    }
+    *length = fread(file, 1, CRPD_FILE_LENGTH + 1, input);
+    int failed = ferror(input);
+    if (failed) {
+        perror(name);
+    }
+    fclose(input);
+    return !failed;
+}
+
+int find_table(const char *name, struct table *table)
+{
+    static uint8_t file[CRPD_FILE_LENGTH + 1];
+    static uint16_t area[CRPD_AREA_LENGTH];
+    uint8_t answer[CRPD_READ_LENGTH];
+    uint8_t named[CRPD_NAMED_LENGTH];
+    size_t length;
+
+    if (!read_file(name, file, &length)) {
+        return NOT_READ;
+    }
+    uint8_t status = crpd_table(
+        file, length, area, CRPD_AREA_LENGTH, table->numbers, CRPD_TABLE_LENGTH, named, CRPD_NAMED_LENGTH);
+    if (status != CRPD_DONE) {
+        print_refusal(status, named[0]);
+        return REFUSED;
+    }
+    crpd_read(file, length, answer, CRPD_READ_LENGTH);
+    table->cache_blocks = answer[1];
+    table->tasks = answer[2];
+    return PRINTED;
+}

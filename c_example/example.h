@@ -1,0 +1,24 @@
+/*
+ * What the example programs share: how they end, reading a project file, and telling a refusal.
+ */
+#ifndef EXAMPLE_H
+#define EXAMPLE_H
+
+#include "crpd.h"
+
+enum { PRINTED = 0, REFUSED = 1, NOT_READ = 2 };
+
+/* The pair numbers of a file, with its n and its number of tasks. */
+struct table {
+    int cache_blocks;
+    int tasks;
+    uint16_t numbers[CRPD_TABLE_LENGTH];
+};
+
+/* Prints a refusal as crpd does, and tells it in words on standard error. */
+void print_refusal(uint8_t check, uint8_t task);
+
+/* Fills the table of the named file and answers PRINTED, or tells why not and answers how the program is to end. */
+int find_table(const char *name, struct table *table);
+
+#endif

@@ -1,0 +1,4 @@
+pub mod Times
+pub mod BoundsLaws
+pub mod MicrosecondsVerdicts
+pub mod Neighbours
