@@ -31,12 +31,12 @@ use Rattle.replay.proofs.Replays.{replayed, run-replayed, sheet-two-bytes}
 use Rattle.claims.proofs.Sheets.{of-the-run}
 use Rattle.claims.specs.Demand.{TableEntries, NoMasks, Demand3Whole}
 
-filled-passed : (c : Check) → pickFilling c ≡ Filled → c ≡ Passed
+pub filled-passed : (c : Check) → pickFilling c ≡ Filled → c ≡ Passed
 filled-passed Passed e = refl
 filled-passed (Failed c a) e = let z : _≡_ {A = ℕ} 0 1 = cc in absurd (omega arith)
 
 -- the table's places hold the entries
-table-place : (s : List ℕ) (i j : ℕ) → i < 8 → j < 8 → getD (tableOf s) (8 * i + j) 0 ≡ entryOf s i j
+pub table-place : (s : List ℕ) (i j : ℕ) → i < 8 → j < 8 → getD (tableOf s) (8 * i + j) 0 ≡ entryOf s i j
 unfolding tableOf
 table-place s i j a b = place-at (entryOf s) 8 0 i j a b ∙ ap (λ (k : ℕ). entryOf s k j) (zero-add i)
 

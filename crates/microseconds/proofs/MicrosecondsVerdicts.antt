@@ -20,7 +20,8 @@ use Rattle.microseconds.proofs.Times.{exact-time, exact-time-only}
 use Rattle.microseconds.proofs.BoundsLaws.{within, answer-by}
 
 module _ (number penalty clock : ℕ) where
-  exact17 : (test17 number penalty clock ≡ true) ↔ Fault17 number penalty clock
+  -- check 17: the test holds exactly when the fault is there
+  pub exact17 : (test17 number penalty clock ≡ true) ↔ Fault17 number penalty clock
   exact17 =
       either-exact (outside largestPenalty penalty) (outside largestClock clock || ltb largestNumber number)
       (outside-exact penalty 1 largestPenalty penalty)
