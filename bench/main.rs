@@ -172,7 +172,7 @@ fn write(lines: &mut Lines) {
     }
 }
 
-/// Numbers, penalties and clocks: one of a release sheet, the longest time, and one that is refused.
+/// A number, a penalty and a clock each: typical ones, the longest time, and ones that are refused.
 fn microseconds(lines: &mut Lines) {
     lines.heading("Microseconds");
     for (name, input) in [("typical", (6, 30, 72_000)), ("largest", (16, 1000, 1)), ("refused by 17", (17, 30, 72_000))] {

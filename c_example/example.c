@@ -2,7 +2,7 @@
 
 #include <stdio.h>
 
-/* When a check of a file or of a time fails. */
+/* When a check of a file, or of a number, penalty and clock, fails. */
 static const char *meaning(uint8_t check)
 {
     switch (check) {
@@ -16,7 +16,8 @@ static const char *meaning(uint8_t check)
     case CRPD_CHECK_COMPLETE_PATHS: return "a block is on no complete path";
     case CRPD_CHECK_SHARED: return "a memory block is shared with an earlier task";
     case CRPD_CHECK_STATES: return "a block has 33 or more reaching or live states";
-    case CRPD_CHECK_MICROSECONDS: return "the penalty is outside 1 to 1,000 or the clock outside 1 to 1,000,000";
+    case CRPD_CHECK_MICROSECONDS:
+        return "the number is over 16, the penalty outside 1 to 1,000 or the clock outside 1 to 1,000,000";
     default: return "a list is of another length";
     }
 }
@@ -68,5 +69,5 @@ int find_table(const char *name, struct table *table)
     crpd_read(file, length, answer, CRPD_READ_LENGTH);
     table->cache_blocks = answer[1];
     table->tasks = answer[2];
-    return PRINTED;
+    return DONE;
 }

@@ -6,7 +6,7 @@
 
 #include "crpd.h"
 
-enum { PRINTED = 0, REFUSED = 1, NOT_READ = 2 };
+enum { DONE = 0, REFUSED = 1, NOT_READ = 2 };
 
 /* The pair numbers of a file, with its n and its number of tasks. */
 struct table {
@@ -18,7 +18,7 @@ struct table {
 /* Prints a refusal as crpd does, and tells it in words on standard error. */
 void print_refusal(uint8_t check, uint8_t task);
 
-/* Fills the table of the named file and answers PRINTED, or tells why not and answers how the program is to end. */
+/* Fills the table of the named file and answers DONE, or tells why not and answers how the program is to end. */
 int find_table(const char *name, struct table *table);
 
 #endif

@@ -1,8 +1,8 @@
 /*
  * Prints the pair numbers of a project file as times, given the miss penalty in cycles and the clock in kHz:
- * whole microseconds, and the rest of one as a fraction whose denominator is the clock. Nothing is rounded.
+ * whole microseconds, and the remainder over the clock. Nothing is rounded.
  * Ends with 0 after a table, 1 after a refusal, which is also told in words on standard error, and 2 if the file
- * cannot be read or the penalty or the clock is no number of 32 bits.
+ * cannot be read or the arguments are not a file and two numbers of 32 bits.
  */
 #include "example.h"
 
@@ -56,7 +56,7 @@ int main(int count, char **arguments)
         return NOT_READ;
     }
     int end = find_table(arguments[1], &table);
-    if (end != PRINTED) {
+    if (end != DONE) {
         return end;
     }
     uint8_t status = crpd_microseconds(0, penalty, clock, answer, CRPD_MICROSECONDS_LENGTH);
@@ -65,5 +65,5 @@ int main(int count, char **arguments)
         return REFUSED;
     }
     print_times(&table, penalty, clock);
-    return PRINTED;
+    return DONE;
 }

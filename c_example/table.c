@@ -28,7 +28,7 @@ int main(int count, char **arguments)
         return NOT_READ;
     }
     int end = find_table(arguments[1], &table);
-    if (end == PRINTED) {
+    if (end == DONE) {
         print_table(&table);
     }
     return end;

@@ -324,7 +324,7 @@ fn compare_refused(report: &mut Report, file: &[u8], sheet: &[u16], check: u8) {
     report.add("broken sheet", check, file, format!("{sheet:?}"), vec![differ("status", &[(check, 255)], &[found])]);
 }
 
-/// A table that was refused keeps what it held.
+/// Whether Table filled it: a table that was refused keeps what it held, which is not 0.
 fn filled(table: &[u16]) -> bool {
     table[0] == 0
 }
@@ -374,8 +374,8 @@ fn compare_microseconds(report: &mut Report, number: u32, penalty: u32, clock: u
     report.add("crpd_microseconds", check, &[], arguments, faults);
 }
 
-/// Every number up to the bound and next to it, with each penalty and clock at a bound or next to it, and lists of a wrong
-/// length.
+/// Numbers 0 to 18 and the two largest of 32 bits, with penalties and clocks at each bound, next to it and at the largest of
+/// 32 bits, and lists of a wrong length.
 fn compare_times(report: &mut Report) {
     for number in (0..=18).chain([u32::MAX - 1, u32::MAX]) {
         for penalty in [0, 1, 2, 999, 1000, 1001, u32::MAX] {
@@ -412,7 +412,7 @@ fn compare_sheet_limits(report: &mut Report) {
     }
 }
 
-/// The examples of document 01, the same file with flags, and three times hold of the independent implementation.
+/// The examples of document 01, the same file with flags, and examples of Point 2 hold of the independent implementation.
 fn examples() {
     let block = |successors: &[usize], references: &[u16]| Block {
         masked: false,

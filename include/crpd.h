@@ -54,8 +54,8 @@ extern "C" {
  *  14  the out list is shorter than the file
  *  15  the task is not below t
  *  16  a preemption in the run sheet comes after a masked block
- *  17  a number of misses is over 16, a miss penalty outside 1 to
- *      1,000 or a clock outside 1 to 1,000,000
+ *  17  a pair number is over 16, a miss penalty outside 1 to 1,000
+ *      or a clock outside 1 to 1,000,000
  */
 enum crpd_status {
     CRPD_DONE = 0,
@@ -224,14 +224,15 @@ uint8_t crpd_write(
     uint8_t *out, size_t out_length, size_t *answer, size_t answer_length);
 
 /*
- * Microseconds: the time that the misses of a pair number take. Check 17 alone, ahead of any arithmetic.
- * number: the misses, 0 to CRPD_NUMBER; every number of a table of crpd_table is one of these. penalty: the cycles of
- * one miss, 1 to CRPD_PENALTY. clock: in kHz, 1 to CRPD_CLOCK. Any other number is refused with 17.
- * answer: CRPD_MICROSECONDS_LENGTH places. Nothing is rounded: number * penalty * 1000 is q * clock + r, and the time
- * is q + r / clock microseconds:
- *   0: CRPD_NO_TASK
+ * Microseconds: the time that the misses of a pair number take: q + r / clock microseconds, where
+ * number * penalty * 1000 is q * clock + r and r is below the clock. Nothing is rounded. Check 17 alone, ahead of any
+ * arithmetic.
+ * number: a pair number, 0 to CRPD_NUMBER, as each place of a table of crpd_table is. penalty: the cycles of one miss,
+ * 1 to CRPD_PENALTY. clock: in kHz, 1 to CRPD_CLOCK.
+ * answer: CRPD_MICROSECONDS_LENGTH places:
+ *   0: the task that the check names, which is always CRPD_NO_TASK
  *   1: q, the whole microseconds; 0 after a refusal
- *   2: r, the remainder, below the clock; 0 after a refusal
+ *   2: r, the remainder; 0 after a refusal
  */
 uint8_t crpd_microseconds(uint32_t number, uint32_t penalty, uint32_t clock, uint32_t *answer, size_t answer_length);
 

@@ -1,4 +1,5 @@
--- Every pair number of an accepted file has its exact time: `numbers-timed`.
+-- Within the bounds of penalty and clock every pair number of an accepted file, and every place of a table that Table fills, is answered by
+-- its exact time: `numbers-timed`.
 -- The idea: a pair number is at most n, which is at most 16; so check 17 could only be at fault for the penalty or the clock.
 use mathlib.Core.Path.{_≡_, refl}
 use mathlib.Core.Logic.{inl, inr}

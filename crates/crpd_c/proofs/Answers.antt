@@ -37,13 +37,14 @@ module _ (k : ℕ) (answer : List ℕ) (h : length answer ≡ k) where
   pub leaving : {new after : List ℕ} (old : List ℕ) → new ≡ after → new ≡ cond (places k answer) after old
   leaving old q = rw right q
 
--- an answer told by a match: `told` is the call's answer, `met` the case that the match meets, `new` what was put into the list
+-- an answer told by a match: `told` is what was answered, `call` what the definition says, `case` the case that the match meets, `new`
+-- what was put into the list
 pub answered :
     {A : Type 0} (statusOf : A → ℕ) (numbersOf : A → List ℕ) (k : ℕ) (answer : List ℕ) → length answer ≡ k →
-    {told call met : A} → told ≡ call → told ≡ met → {new : List ℕ} → new ≡ numbersOf met →
-    (statusOf met ≡ cond (places k answer) (statusOf call) 1) × (new ≡ cond (places k answer) (numbersOf call) answer)
-answered statusOf numbersOf k answer h {told} {call} {met} e case q =
-    let same : met ≡ call = sym case ∙ e in
+    {told call case : A} → told ≡ call → told ≡ case → {new : List ℕ} → new ≡ numbersOf case →
+    (statusOf case ≡ cond (places k answer) (statusOf call) 1) × (new ≡ cond (places k answer) (numbersOf call) answer)
+answered statusOf numbersOf k answer h {told} {call} {case} e met q =
+    let same : case ≡ call = sym met ∙ e in
     (status k answer h (ap statusOf same), leaving k answer h answer (q ∙ ap numbersOf same))
 
 pub naming : (named : List ℕ) → length named ≡ 1 → {v w : ℕ} → v ≡ w → set named 0 v ≡ cond (places 1 named) (w ∷ []) named

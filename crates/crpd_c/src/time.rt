@@ -7,7 +7,8 @@ use microseconds::Timing;
 use microseconds::microseconds;
 use project::answers::NO_TASK;
 
-// Microseconds: 0, or 17; `answer` gets the task named (255: there is none), the whole microseconds and the remainder (0 and 0 after 17).
+// Microseconds: 0, or 17; `answer` gets the task that it names (255, for none), the whole microseconds and the remainder (0 and 0 after a
+// refusal).
 // An `answer` that has not three places gives 1 and is left as it was.
 #[no_mangle]
 pub extern "C" fn crpd_microseconds(number: u32, penalty: u32, clock: u32, answer: &mut [u32]) -> u8

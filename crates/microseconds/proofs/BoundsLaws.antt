@@ -11,7 +11,7 @@ use Rattle.project.specs.declared.answers.Check.the-variants.{Passed}
 use Rattle.project.specs.declared.answers.Check.the-variants.{Refused as Failed}
 use Rattle.project.specs.Checklist.{noTask}
 use Rattle.project.proofs.Accepted.{unless-passed, or-false-left, or-false-right}
-use Rattle.microseconds.specs.Microseconds.{largestNumber, largestPenalty, largestClock, outside, test17, microsecondsCheck, quotient, remainder, pickTiming, timingOf}
+use Rattle.microseconds.specs.Microseconds.{largestNumber, largestPenalty, largestClock, outside, test17, microsecondsCheck, whole, remainder, pickTiming, timingOf}
 
 -- what check 17 answers, by its test
 pub at-17 : (number penalty clock : ℕ) → test17 number penalty clock ≡ true → microsecondsCheck number penalty clock ≡ Failed 17 255
@@ -20,7 +20,7 @@ at-17 number penalty clock e = rw e
 pub at-none : (number penalty clock : ℕ) → test17 number penalty clock ≡ false → microsecondsCheck number penalty clock ≡ Passed
 at-none number penalty clock e = rw e
 
--- what passing check 17 says
+-- what is used of check 17's passing
 pub record Within (number penalty clock : ℕ) : Type 0 where
   pub number-high : number ≤ largestNumber
   pub penalty-high : penalty ≤ largestPenalty
@@ -45,5 +45,5 @@ cycles-le w = mul-le-mul (w .number-high) (w .penalty-high)
 -- the answer, by what the check says
 pub answer-by :
     (number penalty clock : ℕ) {r : Check} → microsecondsCheck number penalty clock ≡ r →
-    pickTiming r (quotient number penalty clock) (remainder number penalty clock) ≡ timingOf number penalty clock
-answer-by number penalty clock e = sym (ap (λ (c : Check). pickTiming c (quotient number penalty clock) (remainder number penalty clock)) e)
+    pickTiming r (whole number penalty clock) (remainder number penalty clock) ≡ timingOf number penalty clock
+answer-by number penalty clock e = sym (ap (λ (c : Check). pickTiming c (whole number penalty clock) (remainder number penalty clock)) e)

@@ -15,7 +15,7 @@ use Rattle.project.proofs.Checklists.{verdict-exact, verdict-unique}
 use Rattle.project.proofs.Verdicts.{outside-exact, either-exact}
 use Rattle.microseconds.specs.declared.Timing.{Timing}
 use Rattle.microseconds.specs.declared.Timing.the-variants.{Timed, Refused}
-use Rattle.microseconds.specs.Microseconds.{largestNumber, largestPenalty, largestClock, outside, Fault17, test17, microsecondsChecks, microsecondsCheck, quotient, remainder, pickTiming, timingOf, MicrosecondsVerdict}
+use Rattle.microseconds.specs.Microseconds.{largestNumber, largestPenalty, largestClock, outside, Fault17, test17, microsecondsChecks, microsecondsCheck, whole, remainder, pickTiming, timingOf, MicrosecondsVerdict}
 use Rattle.microseconds.proofs.Times.{exact-time, exact-time-only}
 use Rattle.microseconds.proofs.BoundsLaws.{within, answer-by}
 
@@ -42,7 +42,7 @@ module _ (number penalty clock : ℕ) where
     where
       go :
           (r : Check) → microsecondsCheck number penalty clock ≡ r → Verdict (microsecondsChecks number penalty clock) r →
-          MicrosecondsVerdict number penalty clock (pickTiming r (quotient number penalty clock) (remainder number penalty clock))
+          MicrosecondsVerdict number penalty clock (pickTiming r (whole number penalty clock) (remainder number penalty clock))
       go Passed e v = (v, exact-time number penalty clock (within number penalty clock e .clock-low))
       go (Failed c a) e v = v
 

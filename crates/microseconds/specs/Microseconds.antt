@@ -55,8 +55,8 @@ abbrev pub microsecondsCheck : ℕ → ℕ → ℕ → Check
 microsecondsCheck number penalty clock = verdictOf (microsecondsChecks number penalty clock)
 
 -- q and r
-abbrev pub quotient : ℕ → ℕ → ℕ → ℕ
-quotient number penalty clock = number * penalty * 1000 / clock
+abbrev pub whole : ℕ → ℕ → ℕ → ℕ
+whole number penalty clock = number * penalty * 1000 / clock
 
 abbrev pub remainder : ℕ → ℕ → ℕ → ℕ
 remainder number penalty clock = number * penalty * 1000 % clock
@@ -67,7 +67,7 @@ pickTiming Passed q r = Timed q r
 pickTiming (Failed c a) q r = Refused c a
 
 abbrev pub timingOf : ℕ → ℕ → ℕ → Timing
-timingOf number penalty clock = pickTiming (microsecondsCheck number penalty clock) (quotient number penalty clock) (remainder number penalty clock)
+timingOf number penalty clock = pickTiming (microsecondsCheck number penalty clock) (whole number penalty clock) (remainder number penalty clock)
 
 -- ---- what the answer says, in the document's words
 abbrev pub MicrosecondsVerdict : ℕ → ℕ → ℕ → Timing → Type 0

@@ -1,5 +1,5 @@
--- `crpd_microseconds` meets its contract: it answers what the call answers, in numbers. Assumes nothing.
--- The idea: the enum's case that the match meets is the answer of the call.
+-- `crpd_microseconds` meets its contract: it answers what Microseconds answers, in numbers. Assumes nothing.
+-- The idea: the enum's case that the match meets is the answer of Microseconds.
 use Rattle.crpd_c.specs.Microseconds.{statusOfTiming, numbersOfTiming}
 use Rattle.crpd_c.proofs.Answers.{wrong, answered, first}
 use borrow.Author.Needs.{needs}
