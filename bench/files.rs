@@ -195,9 +195,10 @@ pub fn last_task(file: &[u8]) -> usize {
     file[6] as usize - 1
 }
 
-/// A complete path through the task of `forks` with as many rounds of its loop as 64 blocks allow, taking the sides of the forks by turns.
-fn path(forks: usize, chain: usize) -> Vec<u16> {
-    let rounds = 62 / (2 * forks + chain + 1);
+/// A complete path through the task of `forks` with as many rounds of its loop as `most` blocks allow, taking the sides of the forks by
+/// turns.
+fn path(forks: usize, chain: usize, most: usize) -> Vec<u16> {
+    let rounds = (most - 2) / (2 * forks + chain + 1);
     let mut blocks = vec![0];
     for round in 0..rounds {
         for k in 0..forks {
@@ -240,12 +241,17 @@ pub fn tiny_sheet() -> Vec<u16> {
 
 /// For the typical file, and for the files that are refused early.
 pub fn typical_sheet() -> Vec<u16> {
-    full_sheet(4, |j| path(2 + j % 2, 2))
+    full_sheet(4, |j| path(2 + j % 2, 2, 64))
 }
 
 /// For the largest file.
 pub fn largest_sheet() -> Vec<u16> {
-    full_sheet(8, |_| path(5, 6))
+    full_sheet(8, |_| path(5, 6, 64))
+}
+
+/// For the largest file, with paths as long as a sheet takes.
+pub fn longest_sheet() -> Vec<u16> {
+    full_sheet(8, |_| path(5, 6, 1536))
 }
 
 /// Files of the largest kind with a sheet each: one with a number too many, which fails check 12, one whose last path doesn't end in the
@@ -257,7 +263,7 @@ pub fn refused_sheets() -> Vec<(Vec<u8>, Vec<u16>)> {
     let last = broken.len() - 1;
     broken[last] = 1;
     let mut late = largest_sheet();
-    let length = path(5, 6).len();
+    let length = late[1] as usize;
     let last_point = late.len() - length - 3;
     late[last_point] = length as u16 - 1;
     vec![(largest(), long), (largest(), broken), (largest_masked(), late)]

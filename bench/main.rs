@@ -3,15 +3,16 @@ mod files;
 mod plain;
 mod proved;
 
-use crpd::{AREA_LENGTH, TABLE_LENGTH};
+use crpd::{AREA_LENGTH, COSTLIEST_SHEET_LENGTH, TABLE_LENGTH};
 use files::Parts;
 use std::hint::black_box;
 use std::time::Instant;
 
-/// The checks that an input of its own fails: on files, on sheets, and of the writer.
+/// The checks that an input of its own fails: on files, on sheets, of the writer, and of the costliest run.
 const FILE_CHECKS: [u8; 9] = [2, 3, 4, 5, 6, 7, 8, 9, 10];
 const SHEET_CHECKS: [u8; 3] = [12, 13, 16];
 const WRITER_CHECKS: [u8; 7] = [5, 6, 7, 8, 9, 10, 14];
+const RUN_CHECKS: [u8; 2] = [18, 19];
 
 /// The least time of a call, in nanoseconds, over several rounds of about 20 ms each.
 fn measure(mut call: impl FnMut()) -> f64 {
@@ -131,6 +132,7 @@ fn replay_classes() -> Vec<(String, Replayed)> {
         ("tiny".to_string(), (files::tiny(), files::tiny_sheet())),
         ("typical".to_string(), (files::typical(), files::typical_sheet())),
         ("largest".to_string(), (files::largest(), files::largest_sheet())),
+        ("longest paths".to_string(), (files::largest(), files::longest_sheet())),
     ];
     classes.extend(refused_by(&FILE_CHECKS).zip(early));
     classes.extend(refused_by(&SHEET_CHECKS).zip(files::refused_sheets()));
@@ -182,6 +184,63 @@ fn microseconds(lines: &mut Lines) {
     }
 }
 
+/// A file, two tasks, and the length of the sheet for the costliest run.
+struct Asked {
+    file: Vec<u8>,
+    i: usize,
+    j: usize,
+    room: usize,
+}
+
+/// Task 0 preempted by the last task of the file.
+fn asked(file: Vec<u8>) -> Asked {
+    Asked { i: 0, j: files::last_task(&file), room: COSTLIEST_SHEET_LENGTH, file }
+}
+
+/// One task given twice, and a sheet that is too short.
+fn refused_runs() -> [Asked; 2] {
+    let typical = || asked(files::typical());
+    [Asked { j: 0, ..typical() }, Asked { room: COSTLIEST_SHEET_LENGTH - 1, ..typical() }]
+}
+
+fn run_classes() -> Vec<(String, Asked)> {
+    let mut classes: Vec<_> = file_classes().into_iter().map(|(name, file)| (name, asked(file))).collect();
+    classes.extend(refused_by(&RUN_CHECKS).zip(refused_runs()));
+    classes
+}
+
+/// D - U of a run that was written, or the refusal.
+fn extra(file: &[u8], sheet: &[u16], answer: Result<usize, plain::Refusal>) -> Result<u32, plain::Refusal> {
+    let (without, with) = plain::replay(file, &sheet[..answer?])?;
+    Ok(with - without)
+}
+
+/// Which run is written is left free, so the two versions may write different ones of the same D - U.
+fn costliest_run(lines: &mut Lines) {
+    lines.heading("Costliest run");
+    let (mut first, mut second, mut sheet) = (vec![0; AREA_LENGTH], vec![0; AREA_LENGTH], [7; COSTLIEST_SHEET_LENGTH]);
+    let (mut other_first, mut other_second, mut other) = (first.clone(), second.clone(), sheet);
+    for (name, asked) in &run_classes() {
+        let Asked { file, i, j, room } = asked;
+        let expected = plain::costliest_run(file, *i, *j, &mut first, &mut second, &mut sheet[..*room]);
+        let found = proved::costliest_run(file, *i, *j, &mut other_first, &mut other_second, &mut other[..*room]);
+        assert_eq!(extra(file, &sheet, expected), extra(file, &other, found), "{name}");
+        lines.line(
+            name,
+            asked,
+            |a| plain::costliest_run(&a.file, a.i, a.j, &mut first, &mut second, &mut sheet[..a.room]),
+            |a| proved::costliest_run(&a.file, a.i, a.j, &mut other_first, &mut other_second, &mut other[..a.room]),
+        );
+    }
+}
+
+/// D - U of the run that the plain version writes, or its refusal.
+fn plain_extra(a: &Asked) -> Result<u32, plain::Refusal> {
+    let mut sheet = vec![7; a.room];
+    let answer = plain::costliest_run(&a.file, a.i, a.j, &mut [0; AREA_LENGTH], &mut [0; AREA_LENGTH], &mut sheet);
+    extra(&a.file, &sheet, answer)
+}
+
 /// The inputs that are to be refused fail the checks that they are made for.
 fn refused_as_meant() {
     let failed: Vec<u8> = files::refused_early().iter().map(|f| plain::replay(f, &[]).unwrap_err().0).collect();
@@ -196,12 +255,15 @@ fn refused_as_meant() {
         .collect();
     assert_eq!(failed, WRITER_CHECKS);
     assert_eq!(plain::microseconds(17, 30, 72_000), Err((17, 255)));
+    let failed: Vec<u8> = refused_runs().iter().map(|a| plain_extra(a).unwrap_err().0).collect();
+    assert_eq!(failed, RUN_CHECKS);
 }
 
-/// The other inputs are accepted, the writer gives back the files that its parts are made from, and masks change the table.
+/// The other inputs are accepted, the writer gives back the files that its parts are made from, masks change the table, and the
+/// costliest runs reach the numbers of the table.
 fn accepted_as_meant() {
-    let files = [files::tiny(), files::typical(), files::largest()];
-    let sheets = [files::tiny_sheet(), files::typical_sheet(), files::largest_sheet()];
+    let files = [files::tiny(), files::typical(), files::largest(), files::largest()];
+    let sheets = [files::tiny_sheet(), files::typical_sheet(), files::largest_sheet(), files::longest_sheet()];
     for (file, sheet) in files.iter().zip(&sheets) {
         let (without, with) = plain::replay(file, sheet).unwrap();
         assert!(without < with);
@@ -216,13 +278,16 @@ fn accepted_as_meant() {
         numbers
     };
     assert_ne!(table(&files::masked()), table(&files::typical()));
+    for file in [files::tiny(), files::typical(), files::masked(), files::largest(), files::varied()] {
+        assert_eq!(plain_extra(&asked(file.clone())), Ok(table(&file)[files::last_task(&file)] as u32));
+    }
 }
 
 fn main() {
     refused_as_meant();
     accepted_as_meant();
     let mut lines = Lines::default();
-    for call in [table, states, replay, write, microseconds] {
+    for call in [table, states, replay, write, microseconds, costliest_run] {
         call(&mut lines);
         println!();
     }

@@ -19,6 +19,12 @@ pub fn write(n: u8, bodies: &[u8], lengths: &[usize], out: &mut [u8]) -> Result<
     crpd::write(n, bodies, lengths, out).map_err(Refusal::numbers)
 }
 
+pub fn costliest_run(
+    file: &[u8], i: usize, j: usize, first: &mut [u16], second: &mut [u16], sheet: &mut [u16],
+) -> Result<usize, plain::Refusal> {
+    crpd::costliest_run(file, i, j, first, second, sheet).map_err(Refusal::numbers)
+}
+
 pub fn microseconds(number: u32, penalty: u32, clock: u32) -> Result<(u32, u32), plain::Refusal> {
     let Time { whole, remainder } = crpd::microseconds(number, penalty, clock).map_err(Refusal::numbers)?;
     Ok((whole, remainder))

@@ -1,8 +1,10 @@
 #include "example.h"
 
+#include <errno.h>
 #include <stdio.h>
+#include <stdlib.h>
 
-/* When a check of a file, or of a number, penalty and clock, fails. */
+/* When a check of a file, of a number, penalty and clock, or of two tasks fails. */
 static const char *meaning(uint8_t check)
 {
     switch (check) {
@@ -18,6 +20,7 @@ static const char *meaning(uint8_t check)
     case CRPD_CHECK_STATES: return "a block has 33 or more reaching or live states";
     case CRPD_CHECK_MICROSECONDS:
         return "the number is over 16, the penalty outside 1 to 1,000 or the clock outside 1 to 1,000,000";
+    case CRPD_CHECK_TWO_TASKS: return "the two tasks are equal, or one is not in the file";
     default: return "a list is of another length";
     }
 }
@@ -32,8 +35,7 @@ void print_refusal(uint8_t check, uint8_t task)
     fprintf(stderr, "\n");
 }
 
-/* Reads the file to the front of a list of the longest file's length and one more, so that a longer one is refused. */
-static int read_file(const char *name, uint8_t *file, size_t *length)
+int read_file(const char *name, uint8_t *file, size_t *length)
 {
     FILE *input = fopen(name, "rb");
     if (input == NULL) {
@@ -47,6 +49,22 @@ static int read_file(const char *name, uint8_t *file, size_t *length)
     }
     fclose(input);
     return !failed;
+}
+
+int read_number(const char *text, uint32_t *number)
+{
+    char *end;
+
+    if (*text < '0' || '9' < *text) {
+        return 0;
+    }
+    errno = 0;
+    unsigned long long value = strtoull(text, &end, 10);
+    if (errno != 0 || *end != '\0' || UINT32_MAX < value) {
+        return 0;
+    }
+    *number = (uint32_t)value;
+    return 1;
 }
 
 int find_table(const char *name, struct table *table)

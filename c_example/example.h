@@ -1,5 +1,5 @@
 /*
- * What the example programs share: how they end, reading a project file, and telling a refusal.
+ * What the example programs share: how they end, reading a project file and numbers, and telling a refusal.
  */
 #ifndef EXAMPLE_H
 #define EXAMPLE_H
@@ -14,6 +14,15 @@ struct table {
     int tasks;
     uint16_t numbers[CRPD_TABLE_LENGTH];
 };
+
+/*
+ * Reads the named file to the front of a list of the longest file's length and one more, so that a longer one is refused.
+ * Answers 1, or tells why not and answers 0.
+ */
+int read_file(const char *name, uint8_t *file, size_t *length);
+
+/* Reads a number of 32 bits, digits and nothing else, and answers 1, or 0 if it is none. */
+int read_number(const char *text, uint32_t *number);
 
 /* Prints a refusal as crpd does, and tells it in words on standard error. */
 void print_refusal(uint8_t check, uint8_t task);

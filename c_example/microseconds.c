@@ -6,27 +6,8 @@
  */
 #include "example.h"
 
-#include <errno.h>
 #include <inttypes.h>
 #include <stdio.h>
-#include <stdlib.h>
-
-/* Reads a number of 32 bits: digits and nothing else. */
-static int read_number(const char *text, uint32_t *number)
-{
-    char *end;
-
-    if (*text < '0' || '9' < *text) {
-        return 0;
-    }
-    errno = 0;
-    unsigned long long value = strtoull(text, &end, 10);
-    if (errno != 0 || *end != '\0' || UINT32_MAX < value) {
-        return 0;
-    }
-    *number = (uint32_t)value;
-    return 1;
-}
 
 /* One line for each two tasks. The penalty and the clock passed check 17, which takes every number of a table. */
 static void print_times(const struct table *table, uint32_t penalty, uint32_t clock)

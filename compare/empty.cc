@@ -82,6 +82,24 @@ static void microseconds()
     expect("microseconds, answer", CRPD_CHECK_LENGTHS, crpd_microseconds(1, 1, 1, no_words, 0));
 }
 
+static void costliest_run()
+{
+    std::vector<uint16_t> first(CRPD_AREA_LENGTH), second(CRPD_AREA_LENGTH), sheet(CRPD_COSTLIEST_SHEET_LENGTH);
+    uint16_t *a = &first[0], *b = &second[0], *s = &sheet[0];
+    const size_t area_length = CRPD_AREA_LENGTH, sheet_length = CRPD_COSTLIEST_SHEET_LENGTH;
+    size_t answer[CRPD_COSTLIEST_RUN_LENGTH];
+    expect("costliest run, file", CRPD_CHECK_FILE_LENGTH,
+           crpd_costliest_run(no_bytes, 0, 0, 1, a, area_length, b, area_length, s, sheet_length, answer, 2));
+    expect("costliest run, first area", CRPD_CHECK_LENGTHS,
+           crpd_costliest_run(e, sizeof e, 0, 1, no_numbers, 0, b, area_length, s, sheet_length, answer, 2));
+    expect("costliest run, second area", CRPD_CHECK_LENGTHS,
+           crpd_costliest_run(e, sizeof e, 0, 1, a, area_length, no_numbers, 0, s, sheet_length, answer, 2));
+    expect("costliest run, sheet", CRPD_CHECK_SHEET_LENGTH,
+           crpd_costliest_run(e, sizeof e, 0, 1, a, area_length, b, area_length, no_numbers, 0, answer, 2));
+    expect("costliest run, answer", CRPD_CHECK_LENGTHS,
+           crpd_costliest_run(e, sizeof e, 0, 1, a, area_length, b, area_length, s, sheet_length, no_counts, 0));
+}
+
 int main()
 {
     read_and_body();
@@ -89,5 +107,6 @@ int main()
     table();
     replay_and_write();
     microseconds();
+    costliest_run();
     return failed;
 }

@@ -151,6 +151,27 @@ fn stairs(count: usize, first: usize) -> Task {
     (0..count).map(step).collect()
 }
 
+/// A loop over `stations` forks and `chain` blocks. The arm of fork k, which may be passed by, loads the cache blocks k and k + 1.
+/// What the end block reads is left there only by the arms in falling order, one in each round, so the costliest run is long.
+fn rounds(stations: usize, chain: usize, n: usize, first: usize) -> Task {
+    // of the two memory blocks of cache block c, that of the arm of fork c or that of the arm before
+    let own = |c: usize| (first + c) as u16;
+    let before = |c: usize| (first + n + c) as u16;
+    let all = |load: &dyn Fn(usize) -> u16| [vec![own(0)], (1..stations).map(load).collect(), vec![before(stations)]].concat();
+    let mut task = vec![block(&[1], &all(&own))];
+    for k in 0..stations {
+        let fork = 1 + 2 * k;
+        task.push(block(&[fork + 1, fork + 2], &[]));
+        task.push(block(&[fork + 2], &[own(k), before(k + 1)]));
+    }
+    for _ in 0..chain {
+        task.push(block(&[task.len() + 1], &[]));
+    }
+    task.push(block(&[1, task.len() + 1], &[]));
+    task.push(block(&[], &all(&before)));
+    task
+}
+
 fn task(random: &mut Random, n: usize, i: usize) -> Task {
     // the ranges of tasks begin at multiples of 8,191
     let first = 8191 * i + (n - 8191 * i % n) % n;
@@ -161,6 +182,10 @@ fn task(random: &mut Random, n: usize, i: usize) -> Task {
             layers(8 + random.below(5), 3 + random.below(2), n, first, many)
         }
         2 => stairs(1 + random.below(16), first),
+        3 if n >= 8 => {
+            let stations = 4 + random.below(4);
+            rounds(stations, random.below(22 - 2 * stations), n, first)
+        }
         _ => {
             let graph = graph(random);
             with_references(random, graph, i)
@@ -192,6 +217,28 @@ pub fn longest() -> Made {
         references: (0..16).map(|k| (1000 * i + k) as u16).collect(),
     };
     Made { n: 16, tasks: (0..8).map(|i| (0..24).map(|b| whole(i, b)).collect()).collect() }
+}
+
+/// Files of three tasks, each of which has a few states, 32 in a block, or 33 in a block: reaching ones, live ones or both.
+pub fn crowded() -> Vec<Made> {
+    let n = 4;
+    let kinds = |i: usize| {
+        let first = 400 * i;
+        [
+            stairs(3, first),
+            layers(8, 4, n, first, Many::Both),
+            layers(11, 3, n, first, Many::Reaching),
+            layers(11, 3, n, first, Many::Live),
+            layers(11, 3, n, first, Many::Both),
+        ]
+    };
+    let mut files = Vec::new();
+    for a in kinds(0) {
+        for b in kinds(1) {
+            files.extend(kinds(2).map(|c| Made { n: n as u8, tasks: vec![a.clone(), b.clone(), c] }));
+        }
+    }
+    files
 }
 
 /// Two tasks of one block each that loop; that of task 0 is masked or not.
@@ -338,7 +385,8 @@ fn block_starts(task: &Task) -> Vec<usize> {
     starts
 }
 
-/// A complete path of at most 64 blocks: some steps at random, and then a shortest way to the end.
+/// A complete path of at most 1,536 blocks, most often of at most 64: some steps at random, and then a shortest way to the
+/// end, of at most 23 steps.
 fn path(random: &mut Random, task: &Task) -> Vec<u16> {
     let end = task.len() - 1;
     let mut far = vec![usize::MAX; task.len()];
@@ -349,7 +397,7 @@ fn path(random: &mut Random, task: &Task) -> Vec<u16> {
             far[b] = nearest.unwrap_or(usize::MAX);
         }
     }
-    let wandering = random.below(41);
+    let wandering = if random.one_in(40) { random.below(1514) } else { random.below(41) };
     let mut blocks = vec![0];
     loop {
         let last = blocks[blocks.len() - 1];
@@ -433,7 +481,7 @@ pub fn damaged_sheet(random: &mut Random, tasks: &[Task], sheet: &[u16]) -> (Vec
             return (broken, 12);
         }
         2 => (0, random.pick(&[tasks.len() as u16, 8, 65535]), 12),
-        3 => (1, random.pick(&[0, 65, 65535]), 12),
+        3 => (1, random.pick(&[0, 1537, 65535]), 12),
         4 => (2 + length, random.pick(&[17, 65535]), 12),
         5 => (2 + random.below(length), random.pick(&[24, 256, 65535]), 13),
         6 => (1 + length, tasks[sheet[0] as usize].len() as u16, 13),
@@ -451,10 +499,10 @@ fn damaged_preemption(random: &mut Random, tasks: &[Task], sheet: &[u16]) -> (Ve
     let first = 3 + length;
     let second = first + 3 + sheet[first + 2] as usize;
     let (place, number, check) = match random.below(6) {
-        0 => (first, random.pick(&[length as u16, 64, 65535]), 12),
+        0 => (first, random.pick(&[length as u16, 1536, 65535]), 12),
         1 => (first + 1, sheet[0], 12),
         2 => (first + 1, random.pick(&[tasks.len() as u16, 8, 65535]), 12),
-        3 => (first + 2, random.pick(&[0, 65, 65535]), 12),
+        3 => (first + 2, random.pick(&[0, 1537, 65535]), 12),
         4 if second < sheet.len() && sheet[second] > 0 => {
             // a point below the one before it
             broken[first] = sheet[second];
@@ -472,7 +520,7 @@ pub fn changed_sheet(random: &mut Random, sheet: &[u16]) -> Vec<u16> {
     for _ in 0..1 + random.below(3) {
         let place = random.below(sheet.len());
         let number = changed[place];
-        changed[place] = random.pick(&[0, 1, 2, 3, 64, 65535, number.wrapping_add(1), number.wrapping_sub(1)]);
+        changed[place] = random.pick(&[0, 1, 2, 3, 1536, 65535, number.wrapping_add(1), number.wrapping_sub(1)]);
     }
     changed
 }

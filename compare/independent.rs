@@ -1,4 +1,4 @@
-//! Document 01 with Points 1 and 2 of document 02 once more, in plain Rust: by paths, and with sets of rows. Written from the
+//! Document 01 with Points 1 to 3 of document 02 once more, in plain Rust: by paths, and with sets of rows. Written from the
 //! documents alone, to compare with.
 use std::collections::BTreeSet;
 
@@ -6,6 +6,8 @@ pub const AREA: usize = 24832;
 const NOTHING: u16 = 65535;
 const LIVE: usize = 12288;
 const COUNTS: usize = 24576;
+/// The most blocks of a path of a sheet.
+const LONGEST_PATH: u16 = 1536;
 
 /// The check that fails first, and the task that it names.
 pub type Refusal = (u8, u8);
@@ -249,23 +251,32 @@ pub fn row(area: &[u16], live: bool, block: usize, number: usize) -> (usize, usi
     (start + (32 * block + number) * 16, 16)
 }
 
-/// The sets of cache blocks that are useful at the end of some block that isn't masked.
-fn useful(task: &Task, states: &States) -> BTreeSet<BTreeSet<usize>> {
-    let mut sets = BTreeSet::new();
+/// The sets of cache blocks that are useful at the end of some block of a task that isn't masked, and those that it may use.
+struct Sets {
+    useful: BTreeSet<BTreeSet<usize>>,
+    used: BTreeSet<BTreeSet<usize>>,
+}
+
+/// The sets of a task; none by check 11.
+fn sets(task: &Task, n: usize) -> Option<Sets> {
+    let states = states(task, n)?;
+    let mut useful = BTreeSet::new();
     for b in (0..task.len()).filter(|&b| !task[b].masked) {
         for held in &states.reaching[b] {
             for wanted in &states.live[b] {
-                sets.insert((0..16).filter(|&c| held[c] == wanted[c] && held[c] != NOTHING).collect());
+                useful.insert((0..16).filter(|&c| held[c] == wanted[c] && held[c] != NOTHING).collect());
             }
         }
     }
-    sets
+    let ends = states.reaching.last().into_iter().flatten();
+    let used = ends.map(|row| (0..16).filter(|&c| row[c] != NOTHING).collect()).collect();
+    Some(Sets { useful, used })
 }
 
-/// The sets of cache blocks that the task may use.
-fn used(states: &States) -> BTreeSet<BTreeSet<usize>> {
-    let ends = states.reaching.last().into_iter().flatten();
-    ends.map(|row| (0..16).filter(|&c| row[c] != NOTHING).collect()).collect()
+/// The pair number of one task preempted by another.
+fn pair_number(preempted: &Sets, preempting: &Sets) -> u16 {
+    let common = |a: &BTreeSet<usize>| preempting.used.iter().map(|b| a.intersection(b).count()).max();
+    preempted.useful.iter().filter_map(common).max().unwrap_or(0) as u16
 }
 
 /// Table: the pair numbers.
@@ -276,15 +287,12 @@ pub fn table(file: &[u8], area_length: usize, table: &mut [u16]) -> Result<(), R
     let project = read(file)?;
     let mut all = Vec::new();
     for (i, task) in project.tasks.iter().enumerate() {
-        all.push(states(task, project.n).ok_or((11, i as u8))?);
+        all.push(sets(task, project.n).ok_or((11, i as u8))?);
     }
     table.fill(0);
-    let useful: Vec<_> = project.tasks.iter().zip(&all).map(|(task, states)| useful(task, states)).collect();
-    let used: Vec<_> = all.iter().map(used).collect();
     for i in 0..all.len() {
         for j in (0..all.len()).filter(|&j| j != i) {
-            let common = |a: &BTreeSet<usize>| used[j].iter().map(|b| a.intersection(b).count()).max();
-            table[8 * i + j] = useful[i].iter().filter_map(common).max().unwrap_or(0) as u16;
+            table[8 * i + j] = pair_number(&all[i], &all[j]);
         }
     }
     Ok(())
@@ -344,7 +352,7 @@ fn read_sheet(sheet: &[u16], t: usize) -> Option<Sheet> {
     let mut numbers = sheet.iter().copied();
     let path = |numbers: &mut dyn Iterator<Item = u16>| {
         let task = numbers.next().filter(|&task| (task as usize) < t)? as usize;
-        let length = numbers.next().filter(|length| (1..=64).contains(length))?;
+        let length = numbers.next().filter(|length| (1..=LONGEST_PATH).contains(length))?;
         let blocks = (0..length).map(|_| numbers.next()).collect::<Option<Vec<u16>>>()?;
         Some(Path { task, blocks })
     };
@@ -397,9 +405,8 @@ fn run(project: &Project, path: &Path, preemptions: &[(u16, Path)]) -> u32 {
     count
 }
 
-/// Replay: U and D.
-pub fn replay(file: &[u8], sheet: &[u16]) -> Result<(u32, u32), Refusal> {
-    let project = read(file)?;
+/// Checks 12, 13 and 16: the sheet.
+fn checked(project: &Project, sheet: &[u16]) -> Result<Sheet, Refusal> {
     let sheet = read_sheet(sheet, project.tasks.len()).ok_or((12, 255))?;
     let preempting = sheet.preemptions.iter().map(|(_, path)| path);
     if !preempting.chain([&sheet.run]).all(|path| is_complete_path(path, &project.tasks)) {
@@ -409,7 +416,73 @@ pub fn replay(file: &[u8], sheet: &[u16]) -> Result<(u32, u32), Refusal> {
     if sheet.preemptions.iter().any(|(point, _)| run_block(*point).masked) {
         return Err((16, 255));
     }
-    Ok((run(&project, &sheet.run, &[]), run(&project, &sheet.run, &sheet.preemptions)))
+    Ok(sheet)
+}
+
+/// U and D.
+fn counts(project: &Project, sheet: &Sheet) -> (u32, u32) {
+    (run(project, &sheet.run, &[]), run(project, &sheet.run, &sheet.preemptions))
+}
+
+/// Replay: U and D.
+pub fn replay(file: &[u8], sheet: &[u16]) -> Result<(u32, u32), Refusal> {
+    let project = read(file)?;
+    Ok(counts(&project, &checked(&project, sheet)?))
+}
+
+/// An accepted file with the sets of each task, none for a task by check 11.
+pub struct Analysed {
+    project: Project,
+    sets: Vec<Option<Sets>>,
+}
+
+pub fn analyse(file: &[u8]) -> Result<Analysed, Refusal> {
+    let project = read(file)?;
+    let sets = project.tasks.iter().map(|task| sets(task, project.n)).collect();
+    Ok(Analysed { project, sets })
+}
+
+/// What a run is judged by: its task, the tasks of its preemptions in order, and D - U.
+#[derive(Debug, PartialEq)]
+pub struct Cost {
+    task: usize,
+    pub preempting: Vec<usize>,
+    extra: i64,
+}
+
+/// Costliest run: what the run that is written costs. Which run it is, is left free.
+pub fn costliest_run(
+    analysed: &Result<Analysed, Refusal>, i: usize, j: usize, areas: [usize; 2], sheet_length: usize,
+) -> Result<Cost, Refusal> {
+    if areas != [AREA, AREA] {
+        return Err((1, 255));
+    }
+    let Analysed { project, sets } = analysed.as_ref().map_err(|&refusal| refusal)?;
+    let t = project.tasks.len();
+    if i == j || i >= t || j >= t {
+        return Err((18, 255));
+    }
+    if sheet_length < 2310 {
+        return Err((19, 255));
+    }
+    let sets_of = |k: usize| sets[k].as_ref().ok_or((11, k as u8));
+    // of two tasks at fault the lower one is named
+    sets_of(i.min(j))?;
+    let extra = pair_number(sets_of(i)?, sets_of(j)?) as i64;
+    let unmasked = project.tasks[i].iter().any(|block| !block.masked);
+    Ok(Cost { task: i, preempting: if unmasked { vec![j] } else { vec![] }, extra })
+}
+
+/// What the run of a sheet costs.
+pub fn cost(analysed: &Result<Analysed, Refusal>, sheet: &[u16]) -> Result<Cost, Refusal> {
+    let Analysed { project, .. } = analysed.as_ref().map_err(|&refusal| refusal)?;
+    let sheet = checked(project, sheet)?;
+    let (alone, disturbed) = counts(project, &sheet);
+    Ok(Cost {
+        task: sheet.run.task,
+        preempting: sheet.preemptions.iter().map(|(_, path)| path.task).collect(),
+        extra: disturbed as i64 - alone as i64,
+    })
 }
 
 /// Microseconds: whole ones, and the remainder.

@@ -4,9 +4,10 @@ mod independent;
 
 use crpd::{calls, Head, Misses, Refusal, Time};
 use generate::{
-    changed_sheet, damaged, damaged_sheet, longest, loop_sheet, loops, made, masked_sheet, sheet, Made, Random, DAMAGES,
+    changed_sheet, crowded, damaged, damaged_sheet, longest, loop_sheet, loops, made, masked_sheet, sheet, Made, Random,
+    DAMAGES,
 };
-use independent::{Block, AREA};
+use independent::{Analysed, Block, Cost, AREA};
 use std::collections::{BTreeMap, BTreeSet};
 use std::fmt::Debug;
 
@@ -46,7 +47,7 @@ impl Report {
         println!("cases by the check that was answered (0: done)");
         for (call, checks) in &self.cases {
             let counts: Vec<String> = checks.iter().map(|(check, count)| format!("{check}: {count}")).collect();
-            println!("{call:17} {:7}   {}", checks.values().sum::<usize>(), counts.join(", "));
+            println!("{call:18} {:7}   {}", checks.values().sum::<usize>(), counts.join(", "));
         }
         let all: usize = self.cases.values().flat_map(BTreeMap::values).sum();
         match &self.smallest {
@@ -230,6 +231,7 @@ fn compare_lengths(report: &mut Report, file: &[u8]) {
         compare_states(report, file, 0, AREA, places);
         compare_table(report, file, AREA, 64, places);
     }
+    compare_run_lengths(report, file);
 }
 
 /// Rows of an area that States left, and of areas with counts of any kind.
@@ -399,12 +401,117 @@ fn compare_table_times(report: &mut Report, random: &mut Random, file: &[u8], ta
     }
 }
 
+/// What the independent implementation has of a file.
+type Analysis = Result<Analysed, independent::Refusal>;
+
+/// A call for a costliest run: the two tasks, and the lengths of the two work areas, the sheet and the answer.
+#[derive(Clone, Copy, Debug)]
+struct Asked {
+    i: usize,
+    j: usize,
+    areas: [usize; 2],
+    room: usize,
+    places: usize,
+}
+
+impl Asked {
+    /// With lists of the right length.
+    fn of(i: usize, j: usize) -> Asked {
+        Asked { i, j, areas: [AREA, AREA], room: 2310, places: 2 }
+    }
+}
+
+/// What is answered and written: a run that costs what it has to, with the places after it kept, or a refusal with all kept.
+fn run_faults(
+    analysed: &Analysis, expected: &Result<Cost, independent::Refusal>, answer: Result<usize, independent::Refusal>,
+    sheet: &[u16],
+) -> [Option<String>; 2] {
+    let (run, after) = sheet.split_at(answer.unwrap_or(0));
+    let found = answer.and_then(|_| independent::cost(analysed, run));
+    [differ("run", &[expected], &[&found]), differ("after the run", &vec![OLD_NUMBER; after.len()], after)]
+}
+
+/// Which run is written, and with it its length, is left free: the independent implementation replays it. The work areas are
+/// free afterwards, so they are compared only where `answer` is refused.
+fn compare_costliest_run(report: &mut Report, file: &[u8], analysed: &Analysis, asked: Asked) {
+    let Asked { i, j, areas, room, places } = asked;
+    let [mut first, mut second] = areas.map(|length| vec![OLD_NUMBER; length]);
+    let mut sheet = vec![OLD_NUMBER; room];
+    let mut found = vec![OLD_COUNT; places];
+    let status = calls::costliest_run(file, i, j, &mut first, &mut second, &mut sheet, &mut found);
+    let mut name = "crpd_costliest_run";
+    let (mut check, mut expected) = (1, vec![OLD_COUNT; places]);
+    let mut faults = vec![];
+    if places == 2 {
+        let answer = independent::costliest_run(analysed, i, j, areas, room);
+        check = told(&answer).0;
+        expected = vec![told(&answer).1 as usize, if answer.is_ok() { found[1] } else { 0 }];
+        let direct = if status == 0 { Ok(found[1]) } else { Err((status, found[0] as u8)) };
+        faults.extend(run_faults(analysed, &answer, direct, &sheet));
+        // the wrapper gets the areas with what the call left in them
+        let mut other = vec![OLD_NUMBER; room];
+        let wrapped = crpd::costliest_run(file, i, j, &mut first, &mut second, &mut other);
+        faults.extend(run_faults(analysed, &answer, wrapped.map_err(Refusal::numbers), &other));
+        // runs of tasks without an unmasked block are counted apart
+        if answer.is_ok_and(|cost| cost.preempting.is_empty()) {
+            name = "no unmasked block";
+        }
+        if status == 0 {
+            compare_replay(report, file, &sheet[..found[1]], 3);
+        }
+    } else {
+        for (name, list) in [("first area", &first), ("second area", &second), ("sheet", &sheet)] {
+            faults.push(differ(name, &vec![OLD_NUMBER; list.len()], list));
+        }
+    }
+    faults.extend([differ("status", &[check], &[status]), differ("answer", &expected, &found)]);
+    report.add(name, check, file, format!("{asked:?}"), faults);
+}
+
+/// The costliest run of every two tasks of a file, and of tasks that aren't there.
+fn compare_pairs(report: &mut Report, random: &mut Random, file: &[u8], t: usize) {
+    let analysed = independent::analyse(file);
+    for i in 0..t + 2 {
+        for j in 0..t + 2 {
+            let room = random.pick(&[2310, 2310, 2311, 5000]);
+            compare_costliest_run(report, file, &analysed, Asked { room, ..Asked::of(i, j) });
+        }
+    }
+    // numbers that a byte, two bytes or four bytes would cut to 1, too
+    for far in [8, 257, 65537, (1 << 32) + 1, usize::MAX] {
+        for (i, j) in [(0, far), (far, 0), (far, far)] {
+            compare_costliest_run(report, file, &analysed, Asked::of(i, j));
+        }
+    }
+}
+
+/// The costliest run with one list of a wrong length or more, of two tasks, of one task and of one that isn't there.
+fn compare_run_lengths(report: &mut Report, file: &[u8]) {
+    let analysed = independent::analyse(file);
+    for (i, j) in [(0, 1), (1, 0), (0, 0), (0, 8)] {
+        let asked = Asked::of(i, j);
+        for wrong in [0, AREA - 1, AREA + 1] {
+            for areas in [[wrong, AREA], [AREA, wrong], [wrong, wrong]] {
+                for (room, places) in [(2310, 2), (2309, 2), (2310, 1), (2309, 3)] {
+                    compare_costliest_run(report, file, &analysed, Asked { areas, room, places, ..asked });
+                }
+            }
+        }
+        for room in [0, 1, 2309, 2310, 2311, 5000] {
+            compare_costliest_run(report, file, &analysed, Asked { room, ..asked });
+        }
+        for places in [0, 1, 3, 4] {
+            compare_costliest_run(report, file, &analysed, Asked { places, ..asked });
+        }
+    }
+}
+
 /// Sheets with a length or a count at its limit or next to it, without and with a masked block.
 fn compare_sheet_limits(report: &mut Report) {
     for file in [loops(false).file(), loops(true).file()] {
-        for length in [1, 2, 63, 64, 65] {
+        for length in [1, 2, 64, 65, 1535, 1536, 1537] {
             for count in [0, 1, 15, 16, 17] {
-                for other in [1, 63, 64, 65] {
+                for other in [1, 64, 65, 1535, 1536, 1537] {
                     compare_replay(report, &file, &loop_sheet(length, count, other), 3);
                 }
             }
@@ -412,7 +519,8 @@ fn compare_sheet_limits(report: &mut Report) {
     }
 }
 
-/// The examples of document 01, the same file with flags, and examples of Point 2 hold of the independent implementation.
+/// The examples of document 01, the same file with flags, and examples of Points 2 and 3 hold of the independent
+/// implementation.
 fn examples() {
     let block = |successors: &[usize], references: &[u16]| Block {
         masked: false,
@@ -441,6 +549,12 @@ fn examples() {
     assert_eq!(independent::microseconds(1, 1, 3), Ok((333, 1)));
     assert_eq!(independent::microseconds(16, 1000, 1), Ok((16_000_000, 0)));
     assert_eq!(independent::microseconds(17, 1000, 1), Err((17, 255)));
+    let analysed = independent::analyse(&e);
+    let cost = |i: usize, j: usize, room: usize| independent::costliest_run(&analysed, i, j, [AREA, AREA], room);
+    assert_eq!(cost(0, 1, 2310), independent::cost(&analysed, &[0, 2, 0, 0, 1, 0, 1, 1, 0]));
+    assert_eq!(cost(1, 0, 2310), independent::cost(&analysed, &[1, 1, 0, 1, 0, 0, 1, 0]));
+    assert_eq!(cost(0, 2, 2309), Err((18, 255)));
+    assert_eq!(cost(0, 1, 2309), Err((19, 255)));
 }
 
 /// A valid file: every call with lists of the right length, every task and some that aren't there.
@@ -464,6 +578,7 @@ fn compare_made(report: &mut Report, random: &mut Random, made: &Made, seed: u64
     if filled(&table) {
         compare_table_times(report, random, &file, &table);
     }
+    compare_pairs(report, random, &file, made.tasks.len());
     compare_writing(report, random, made);
     if seed % 8 == 0 {
         compare_lengths(report, &file);
@@ -479,6 +594,8 @@ fn compare_damaged(report: &mut Report, random: &mut Random, made: &Made, seed: 
         if let Some(masked) = masked_sheet(random, &made.tasks) {
             compare_replay(report, &broken, &masked, 3);
         }
+        let asked = Asked::of(random.below(made.tasks.len() + 1), random.below(made.tasks.len() + 1));
+        compare_costliest_run(report, &broken, &independent::analyse(&broken), asked);
         compare_broken_bodies(report, made, &broken);
         if seed % 64 == 0 {
             compare_lengths(report, &broken);
@@ -497,6 +614,9 @@ fn main() {
     compare_file(&mut report, &[file.as_slice(), &[0]].concat(), 0);
     compare_sheet_limits(&mut report);
     compare_times(&mut report);
+    for crowded in crowded() {
+        compare_pairs(&mut report, &mut Random::new(0), &crowded.file(), crowded.tasks.len());
+    }
     for seed in 0..files {
         let mut random = Random::new(seed);
         let made = made(&mut random);

@@ -7,7 +7,7 @@
  * call writes to one of them. The pointer of a list of 0 elements is never followed and may be null, as that of an
  * empty std::vector may be. Any other must not be null.
  *
- * Answers. Each call answers 0 when it is done, or the number of the check that fails first, 1 to 17 (below). What
+ * Answers. Each call answers 0 when it is done, or the number of the check that fails first, 1 to 19 (below). What
  * else it has to say stands in its last list (answer, named or found). A last list of another length than the one
  * named here is refused with 1 before anything else, and then no list is written, the last one too: a caller that
  * prints a task after that prints what the list held before. After every other answer each place of the last list
@@ -15,8 +15,8 @@
  *
  * Threads. The calls keep nothing between them, take nothing from the heap and call nothing outside the archive but
  * memcpy and memset, so they may run in several threads at once, on lists that no other thread writes meanwhile.
- * Measured on small and large files alike, crpd_table takes about 18 KiB of stack and each other call about 10 KiB at
- * most; no proof bounds it.
+ * Measured on small and large files alike, crpd_costliest_run takes about 37 KiB of stack, crpd_table about 21 KiB and
+ * each other call about 10 KiB at most; no proof bounds it.
  */
 #ifndef CRPD_H
 #define CRPD_H
@@ -29,8 +29,8 @@ extern "C" {
 #endif
 
 /*
- * What the calls answer. Checks run in rising number, but for crpd_states; each passes for all tasks before the
- * next. A check names a task where the table says so, and else CRPD_NO_TASK.
+ * What the calls answer. Checks run in rising number, but for crpd_states and crpd_costliest_run; each passes for all
+ * tasks before the next. A check names a task where the table says so, and else CRPD_NO_TASK.
  *
  *  No  fails when                                                            names
  *   1  a work area, a table or the last list is of another length
@@ -46,7 +46,8 @@ extern "C" {
  *   9  a block of a task is on no complete path                              the lowest task at fault
  *  10  two tasks share a memory block                                        the lowest that shares with an earlier one
  *  11  a block has 33 or more reaching or live states                        the lowest task at fault; in crpd_states the
- *                                                                            task asked for
+ *                                                                            task asked for, in crpd_costliest_run the
+ *                                                                            lower of the two that is at fault
  *  12  the run sheet is too short or too long, or a length, a count, a
  *      task or a point in it is against the rules
  *  13  a path in the run sheet isn't complete, or names a block that
@@ -56,6 +57,8 @@ extern "C" {
  *  16  a preemption in the run sheet comes after a masked block
  *  17  a pair number is over 16, a miss penalty outside 1 to 1,000
  *      or a clock outside 1 to 1,000,000
+ *  18  the two tasks are equal, or one is not below t
+ *  19  the sheet to write is shorter than 2,310 numbers
  */
 enum crpd_status {
     CRPD_DONE = 0,
@@ -75,7 +78,9 @@ enum crpd_status {
     CRPD_CHECK_OUT_LENGTH = 14,
     CRPD_CHECK_TASK = 15,
     CRPD_CHECK_MASKED = 16,
-    CRPD_CHECK_MICROSECONDS = 17
+    CRPD_CHECK_MICROSECONDS = 17,
+    CRPD_CHECK_TWO_TASKS = 18,
+    CRPD_CHECK_SHEET_LENGTH = 19
 };
 
 #define CRPD_NO_TASK 255  /* where a check names no task, and where a call is done */
@@ -103,9 +108,10 @@ enum crpd_status {
 #define CRPD_TABLE_WIDTH 8
 
 /* The run sheet. */
-#define CRPD_PATH_LENGTH 64     /* the most blocks of a path */
-#define CRPD_PREEMPTIONS 16     /* the most preemptions */
-#define CRPD_SHEET_LENGTH 1139  /* numbers of the longest sheet: 67 for the task, and 67 for each preemption */
+#define CRPD_PATH_LENGTH 1536             /* the most blocks of a path */
+#define CRPD_PREEMPTIONS 16               /* the most preemptions */
+#define CRPD_SHEET_LENGTH 26163           /* numbers of the longest sheet: 1,539 for the task and for each preemption */
+#define CRPD_COSTLIEST_SHEET_LENGTH 2310  /* the fewest numbers of a sheet that crpd_costliest_run takes */
 
 /* Microseconds. */
 #define CRPD_NUMBER 16      /* the largest pair number */
@@ -113,12 +119,13 @@ enum crpd_status {
 #define CRPD_CLOCK 1000000  /* the fastest clock, in kHz; the slowest is 1 */
 
 /* Lengths of the last list of each call. */
-#define CRPD_READ_LENGTH 3          /* answer of crpd_read */
-#define CRPD_PLACE_LENGTH 2         /* found of crpd_body and crpd_row */
-#define CRPD_NAMED_LENGTH 1         /* named of crpd_states and crpd_table */
-#define CRPD_REPLAY_LENGTH 3        /* answer of crpd_replay */
-#define CRPD_WRITE_LENGTH 2         /* answer of crpd_write */
-#define CRPD_MICROSECONDS_LENGTH 3  /* answer of crpd_microseconds */
+#define CRPD_READ_LENGTH 3           /* answer of crpd_read */
+#define CRPD_PLACE_LENGTH 2          /* found of crpd_body and crpd_row */
+#define CRPD_NAMED_LENGTH 1          /* named of crpd_states and crpd_table */
+#define CRPD_REPLAY_LENGTH 3         /* answer of crpd_replay */
+#define CRPD_WRITE_LENGTH 2          /* answer of crpd_write */
+#define CRPD_MICROSECONDS_LENGTH 3   /* answer of crpd_microseconds */
+#define CRPD_COSTLIEST_RUN_LENGTH 2  /* answer of crpd_costliest_run */
 
 /*
  * Reader: n and t of a file. Checks 2 to 10.
@@ -235,6 +242,33 @@ uint8_t crpd_write(
  *   2: r, the remainder; 0 after a refusal
  */
 uint8_t crpd_microseconds(uint32_t number, uint32_t penalty, uint32_t clock, uint32_t *answer, size_t answer_length);
+
+/*
+ * Costliest run: a run of task i with one preemption by task j that costs as much as any: crpd_replay answers U and D
+ * of its sheet, and D - U is the pair number of i preempted by j. Where several runs cost as much, any of them may be
+ * written. Checks 1 to 10, 18, 19, and then 11 for these two tasks alone.
+ * file: its bytes, any number of them. i, j: any numbers.
+ * first, second: CRPD_AREA_LENGTH places each to work in, which may hold anything before. Where answer is of
+ * the right length they may hold anything afterwards, refused or not.
+ * sheet: CRPD_COSTLIEST_SHEET_LENGTH places, which always suffice, or more. When the call is done the run stands at the
+ * front, as crpd_replay takes it:
+ *   task i
+ *   its path's length, 1 to CRPD_PATH_LENGTH
+ *   the path's blocks
+ *   the number of preemptions: 1, or 0 where all blocks of i are masked, and then the run ends here
+ *   the point: a position in the path, from 0, after whose block the preemption comes; that block is not masked
+ *   task j
+ *   its path's length, 1 to CRPD_PATH_LENGTH
+ *   the path's blocks
+ * The places after the run keep their contents, and after a refusal all do.
+ * answer: CRPD_COSTLIEST_RUN_LENGTH places:
+ *   0: the task that the check names, or CRPD_NO_TASK
+ *   1: the length of the run in numbers; 0 after a refusal
+ */
+uint8_t crpd_costliest_run(
+    const uint8_t *file, size_t file_length, size_t i, size_t j, uint16_t *first, size_t first_length,
+    uint16_t *second, size_t second_length, uint16_t *sheet, size_t sheet_length,
+    size_t *answer, size_t answer_length);
 
 #ifdef __cplusplus
 }

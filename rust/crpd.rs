@@ -8,12 +8,14 @@ pub const AREA_LENGTH: usize = 24832;
 pub const TABLE_LENGTH: usize = 64;
 /// Bytes of the longest file: an out list of this length always suffices.
 pub const FILE_LENGTH: usize = 7544;
+/// The fewest numbers of a sheet that the costliest run is written to: they always suffice.
+pub const COSTLIEST_SHEET_LENGTH: usize = 2310;
 /// In a row: no memory block.
 pub const NOTHING: u16 = 65535;
 /// In the answers of the calls for C: no task.
 const NO_TASK: u8 = 255;
 
-/// The check that fails first, 1 to 17, and the task that it names.
+/// The check that fails first, 1 to 19, and the task that it names.
 #[derive(Clone, Copy, Debug, PartialEq, Eq)]
 pub struct Refusal {
     pub check: u8,
@@ -143,6 +145,20 @@ pub fn microseconds(number: u32, penalty: u32, clock: u32) -> Result<Time, Refus
     result(status, task as u8, Time { whole, remainder })
 }
 
+/// Costliest run of task i preempted once by task j: checks 1 to 10, 18, 19, and 11 for the two tasks. The front of the
+/// sheet gets the run, whose length is answered; the places after it keep their contents, and after a refusal all do.
+/// What the areas hold afterwards is free.
+#[inline]
+pub fn costliest_run(
+    file: &[u8], i: usize, j: usize, first: &mut [u16], second: &mut [u16], sheet: &mut [u16],
+) -> Result<usize, Refusal> {
+    let mut answer = [0; 2];
+    let status = calls::costliest_run(file, i, j, first, second, sheet, &mut answer);
+    let [task, length] = answer;
+    // a task that is named is a byte
+    result(status, task as u8, length)
+}
+
 /// The calls as include/crpd.h has them: each answers its status, and puts the rest into its last list, which has a
 /// fixed length. A slice passes as a pointer and a number of elements.
 pub mod calls {
@@ -171,6 +187,11 @@ pub mod calls {
             out: *mut u8, out_length: usize, answer: *mut usize, answer_length: usize,
         ) -> u8;
         fn crpd_microseconds(number: u32, penalty: u32, clock: u32, answer: *mut u32, answer_length: usize) -> u8;
+        fn crpd_costliest_run(
+            file: *const u8, file_length: usize, i: usize, j: usize, first: *mut u16, first_length: usize,
+            second: *mut u16, second_length: usize, sheet: *mut u16, sheet_length: usize,
+            answer: *mut usize, answer_length: usize,
+        ) -> u8;
     }
 
     // In each call below the pointers and the numbers of elements are those of slices, and slices that are written to
@@ -232,5 +253,19 @@ pub mod calls {
     #[inline]
     pub fn microseconds(number: u32, penalty: u32, clock: u32, answer: &mut [u32]) -> u8 {
         unsafe { crpd_microseconds(number, penalty, clock, answer.as_mut_ptr(), answer.len()) }
+    }
+
+    #[inline]
+    pub fn costliest_run(
+        file: &[u8], i: usize, j: usize, first: &mut [u16], second: &mut [u16], sheet: &mut [u16],
+        answer: &mut [usize],
+    ) -> u8 {
+        unsafe {
+            crpd_costliest_run(
+                file.as_ptr(), file.len(), i, j, first.as_mut_ptr(), first.len(),
+                second.as_mut_ptr(), second.len(), sheet.as_mut_ptr(), sheet.len(),
+                answer.as_mut_ptr(), answer.len(),
+            )
+        }
     }
 }

@@ -1,11 +1,13 @@
 //! The calls the plain way: vectors, ordered sets and work lists, as one would write them in an afternoon.
 //! Here stands what they share: the reader and the states of a task.
+mod costliest_run;
 mod microseconds;
 mod replay;
 mod states;
 mod table;
 mod write;
 
+pub use costliest_run::costliest_run;
 pub use microseconds::microseconds;
 pub use replay::replay;
 pub use states::states;

@@ -1,6 +1,9 @@
 //! Replay the plain way.
 use super::{read, Refusal, Task, NOTHING};
 
+/// The most blocks of a path.
+const LONGEST_PATH: usize = 1536;
+
 struct Preemption<'a> {
     point: usize,
     task: usize,
@@ -39,7 +42,7 @@ fn take(rest: &mut &[u16]) -> Option<usize> {
 /// A path: its length and its blocks.
 fn take_path<'a>(rest: &mut &'a [u16]) -> Option<&'a [u16]> {
     let length = take(rest)?;
-    if length < 1 || 64 < length || rest.len() < length {
+    if length < 1 || LONGEST_PATH < length || rest.len() < length {
         return None;
     }
     let (path, others) = rest.split_at(length);

@@ -2,7 +2,7 @@
 use super::{live, reaching, read, Refusal, Row, Task, NOTHING};
 use std::collections::BTreeSet;
 
-fn useful(reached: &Row, next: &Row) -> u32 {
+pub fn useful(reached: &Row, next: &Row) -> u32 {
     let mut set = 0;
     for c in 0..reached.len() {
         if reached[c] == next[c] && reached[c] != NOTHING {
@@ -12,7 +12,7 @@ fn useful(reached: &Row, next: &Row) -> u32 {
     set
 }
 
-fn used(row: &Row) -> u32 {
+pub fn used(row: &Row) -> u32 {
     let mut set = 0;
     for (c, &m) in row.iter().enumerate() {
         if m != NOTHING {

@@ -3,3 +3,4 @@ pub mod Demand
 pub mod Neighbours
 pub mod Times
 mod Sheets
+pub mod CostliestRuns

@@ -1,15 +1,15 @@
--- False neighbours of demand 3, refuted over files and calls.
+-- False neighbours of demand 3 and of Point 3, refuted over files and calls.
 -- The idea: E's replay has U = 2 and D = 3, and its pair numbers are 1 and 0; with byte 18 = 01 task 0 is masked, with byte 28 = 01 task 1.
-use mathlib.Core.Path.{_≡_, refl}
+use mathlib.Core.Path.{_≡_, refl, ap}
 use mathlib.Core.List.{List, [], _∷_}
 use Prim.Native.Nat.{ℕ, _+_, _≤_}
 use native.Mathlib.Omega.{arith}
-use lib.ListN.{set}
+use lib.ListN.{length, set}
 use Rattle.cache.specs.References.{nothing, numbers}
-use Rattle.model.specs.Tasks.{SomeUnmasked, task}
+use Rattle.model.specs.Tasks.{SomeUnmasked, stay, task}
 use Rattle.model.specs.Numbers.{NumberOverAll}
 use Rattle.model.specs.Runs.{DisturbedRun}
-use Rattle.model.proofs.Neighbours.{over-all-1, none-costs-1, masked-1}
+use Rattle.model.proofs.Neighbours.{over-all-1, all-masked, none-costs-1, masked-1}
 use Rattle.body.specs.Decode.{decode, blocksFrom}
 use Rattle.project.specs.FileE.{fileE}
 use Rattle.project.specs.declared.answers.Reading.the-variants.{Accepted}
@@ -17,6 +17,7 @@ use Rattle.project.specs.Reading.{readingOf}
 use Rattle.project.specs.Tasks.{tasksOf, fileCache, filePair}
 use Rattle.replay.specs.declared.Replaying.the-variants.{Counted}
 use Rattle.replay.specs.Replay.{replayingOf}
+use Rattle.costliest.specs.Costliest.{OnceBy, Costliest}
 use Rattle.claims.specs.Demand.{fileU, fileD}
 use Rattle.claims.proofs.Papers.{papers}
 
@@ -57,3 +58,31 @@ not-over-all h = let (run, p, e) = h masked0 2 2 0 1 1 refl over-all-1 in none-c
 pub not-by-masked : ((s : List ℕ) (n t i j : ℕ) → readingOf s ≡ Accepted n t → (SomeUnmasked (task (tasksOf s) j) → ⊥) → filePair s i j ≡ 0) → ⊥
 unfolding nothing numbers decode blocksFrom
 not-by-masked h = let e : _≡_ {A = ℕ} 1 0 = h masked1 2 2 0 1 refl masked-1 in omega arith
+
+-- a run of E with byte 18 = 01 that is not preempted, and so costs the pair number 0
+quiet-run : DisturbedRun (tasksOf masked0)
+unfolding nothing numbers decode blocksFrom
+quiet-run = record {
+  p = 0;
+  path = 0 ∷ [];
+  preemptions = [];
+  there = omega arith;
+  complete = (refl, stay {b = 0} (omega arith));
+  each = tt;
+  rising = tt;
+}
+
+quiet-costs : Costliest masked0 0 1 quiet-run
+unfolding nothing numbers decode blocksFrom quiet-run
+quiet-costs = record {
+  preempted = refl;
+  once = λ some. absurd (all-masked some);
+  never = λ none. refl;
+  fits = record { short = omega arith; few = omega arith; each = tt };
+  costs = refl;
+}
+
+-- "a run that costs the pair number has a preemption"
+pub not-always-once : ((s : List ℕ) (i j : ℕ) (run : DisturbedRun (tasksOf s)) → Costliest s i j run → OnceBy j (run .preemptions)) → ⊥
+unfolding quiet-run
+not-always-once h = let (x, e, b) = h masked0 0 1 quiet-run quiet-costs in let z : _≡_ {A = ℕ} 0 1 = ap length e in omega arith

@@ -14,7 +14,7 @@ use Rattle.project.specs.File.{File, taskCount}
 use Rattle.project.specs.Tasks.{tasksOf, filePair, fileCache}
 use Rattle.rows.specs.Rows.{Area}
 use Rattle.table.specs.Table.{tableAnswer, tableAfter}
-use Rattle.sheet.specs.Sheet.{Sheet, sheetNumbers, Fits, sheetRun}
+use Rattle.sheet.specs.Sheet.{Sheet, Fits, runNumbers}
 use Rattle.replay.specs.declared.Replaying.the-variants.{Counted}
 use Rattle.replay.specs.Replay.{replayingOf}
 use Rattle.replay.specs.ReplayVerdict.{Replayed}
@@ -31,7 +31,7 @@ NumbersOfPaths s = (i j : ℕ) → PairNumber (fileCache s) (task (tasksOf s) i)
 
 -- the sheet of a run, and the run's U and D in the file's cache
 abbrev pub sheetOf : (s : File) → DisturbedRun (tasksOf s) → Sheet
-sheetOf s run = sheetNumbers (sheetRun (tasksOf s) run)
+sheetOf s run = runNumbers (tasksOf s) run
 
 abbrev pub fileU : (s : File) → DisturbedRun (tasksOf s) → ℕ
 fileU s run = U (fileCache s) run

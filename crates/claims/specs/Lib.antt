@@ -2,3 +2,4 @@ pub mod Files
 pub mod Papers
 pub mod Demand
 pub mod Times
+pub mod CostliestRuns

@@ -28,7 +28,7 @@ wrong k answer h = ne-eqb (length answer) k h
 
 -- a list of the right length: the answer is the call's, and every lent list is as the call leaves it
 module _ (k : ℕ) (answer : List ℕ) (h : length answer ≡ k) where
-  right : places k answer ≡ true
+  pub right : places k answer ≡ true
   right = eq-eqb (length answer) k h
 
   pub status : {x y : ℕ} → x ≡ y → x ≡ cond (places k answer) y 1

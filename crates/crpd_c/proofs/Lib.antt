@@ -1,2 +1,3 @@
 pub mod Answers
 pub mod Written
+pub mod RunAnswers

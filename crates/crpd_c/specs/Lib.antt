@@ -6,3 +6,4 @@ pub mod Table
 pub mod Write
 pub mod Replay
 pub mod Microseconds
+pub mod CostliestRun

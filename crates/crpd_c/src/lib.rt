@@ -4,6 +4,7 @@ pub mod fill;
 mod put;
 pub mod read;
 pub mod row_place;
+pub mod run;
 pub mod run_counts;
 pub mod time;
 pub mod write;

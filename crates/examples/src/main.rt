@@ -1,8 +1,5 @@
-// Runs document 01's examples of project files, and those of document 02, Point 1, and prints what each call answers.
-ghost use mathlib.Core.Path.{_≡_};
-ghost use mathlib.Core.List.{replicate};
+// Runs document 01's examples of project files, and those of document 02, Points 1 and 3, and prints what each call answers.
 ghost use Prim.Native.Nat.{_≤_, _<_};
-ghost use lib.ListN.{set};
 use example_files::APART;
 use example_files::E;
 use example_files::MASKED;
@@ -201,13 +198,13 @@ fn show_replay(name: &[u8], sheet: &[u16]) {
     show_replay_on(b"E", &E, name, sheet);
 }
 
-// A sheet of task 0 with a path of 65 blocks.
-fn long_path() -> [u16; 68]
-    ensures { λ r. ⌜ r ≡ set (replicate 68 0) 1 65 ⌝ }
+// What replaying a path of so many blocks of task 0 on E answers, without preemptions.
+fn show_long_path(name: &[u8], blocks: usize)
+    requires { ⌜ blocks ≤ 1537 ⌝ }
 {
-    let mut sheet = [0u16; 68];
-    sheet[1] = 65;
-    sheet
+    let mut sheet = [0u16; 1540];
+    sheet[1] = blocks as u16;
+    show_replay(name, &sheet[0..blocks + 3]);
 }
 
 // The replays of document 01.
@@ -247,9 +244,10 @@ fn show_preemptions() {
     );
 }
 
-// Sheets with a path that is too long, or with one that the graph does not have.
+// Sheets with the longest path, with one that is too long, and with paths that the graph does not have.
 fn show_paths() {
-    show_replay(b"a path of 65 blocks", &long_path());
+    show_long_path(b"a path of 1,536 blocks", 1536);
+    show_long_path(b"a path of 1,537 blocks", 1537);
     show_replay(b"0, 1, 5, 0", &[0, 1, 5, 0]);
     show_replay(b"0, 1, 65535, 0", &[0, 1, 65535, 0]);
     show_replay(b"1, 2, 0, 0, 0: no such jump", &[1, 2, 0, 0, 0]);

@@ -252,10 +252,10 @@ cleared w rows counts x l e =
 
 module _ (g : Graph) (few : g .blocks ≤ 24) (within : g .first < g .blocks) {rows counts now counts-now : List ℕ} {full : Bool} (zeros : counts ≡ replicate 24 0)
     (appended : AppendedTo (g .width) (g .first) (g .row) rows counts now counts-now full) where
-  none-held : (b : ℕ) → b < 24 → heldRows (g .width) rows counts b ≡ []
+  pub none-held : (b : ℕ) → b < 24 → heldRows (g .width) rows counts b ≡ []
   none-held b h = ap (λ (n : ℕ). rowsOf (g .width) n (partOf (g .width) rows b)) (ap (λ (l : List ℕ). getD l b 0) zeros ∙ getD-replicate {A = ℕ} 24 b 0 0 h)
 
-  first-held : heldRows (g .width) now counts-now (g .first) ≡ g .row ∷ []
+  pub first-held : heldRows (g .width) now counts-now (g .first) ≡ g .row ∷ []
   first-held = go full refl
     where
       go : (t : Bool) → full ≡ t → heldRows (g .width) now counts-now (g .first) ≡ g .row ∷ []

@@ -12,7 +12,7 @@ use rows::append_row;
 use rows::overlay_row;
 
 // No block has a row.
-fn clear(counts: &mut [usize])
+pub fn clear(counts: &mut [usize])
     requires { ⌜ length (now counts) ≡ 24 ⌝ }
     ensures { λ _. ⌜ now (counts .exit) ≡ replicate 24 0 ⌝ }
 {
@@ -22,7 +22,7 @@ fn clear(counts: &mut [usize])
 }
 
 // The row is appended to the rows of block s; true where the block is full. What stands after the rows of a block is left open.
-fn append_to(s: usize, row: &[u16], rows: &mut [u16], counts: &mut [usize]) -> bool
+pub fn append_to(s: usize, row: &[u16], rows: &mut [u16], counts: &mut [usize]) -> bool
     requires { ⌜ (s < 24) × Memory (length (now row)) (now rows) (now counts) ⌝ }
     ensures { λ r. ⌜ AppendedTo (length (now (row .entry))) s (now (row .entry)) (now (rows .entry)) (now (counts .entry)) (now (rows .exit)) (now (counts .exit)) r ⌝ }
 {
@@ -86,7 +86,7 @@ fn hand_on(
 
 // The row of w numbers that is numbered k at block b is handed on to the blocks of the set; true where one of them is full.
 // What stands after the rows of a block is left open.
-fn hand_row(
+pub fn hand_row(
     w: usize,
     b: usize,
     k: usize,
@@ -109,7 +109,7 @@ fn hand_row(
 }
 
 // A block that has handed on fewer rows than it has, or 24 where there is none; which one is left open. The last one is asked first.
-fn next_waiting(counts: &[usize], done: &[usize], last: usize) -> usize
+pub fn next_waiting(counts: &[usize], done: &[usize], last: usize) -> usize
     requires { ⌜ (length (now counts) ≡ 24) × (length (now done) ≡ 24) × (last < 24) ⌝ }
     ensures { λ r. ⌜ WaitingAt (now (counts .entry)) (now (done .entry)) r ⌝ }
 {

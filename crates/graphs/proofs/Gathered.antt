@@ -12,7 +12,7 @@ use borrow.Rule.Slice.PartMut.{putMid}
 use Rattle.cache.specs.References.{nothing, Real, All}
 use Rattle.cache.specs.Cache.{Cache}
 use Rattle.model.specs.Tasks.{Task, memoryBlocks}
-use Rattle.model.specs.Computed.{reaching, living}
+use Rattle.model.specs.Computed.{sorted, reaching, living}
 use Rattle.body.specs.Decode.{decode, taskOf}
 use Rattle.body.specs.Walk.{keptOf, blocksOf, startsOf}
 use Rattle.body.specs.Layout.{InBounds}
@@ -24,7 +24,8 @@ use Rattle.model.proofs.Narrower.{take-replicate}
 use Rattle.rows.specs.Rows.{Width, kindLength, areaLength}
 use Rattle.rows.proofs.Parts.{replaced-length, replaced-here, replaced-before, lent-back}
 use Rattle.gather.specs.Graph.{Graph, Listed, rowAt, tooMany}
-use Rattle.gather.specs.Gathered.{GatherInput, GatheredAs, graphOf}
+use Rattle.gather.specs.Memory.{heldRows}
+use Rattle.gather.specs.Gathered.{GatherInput, GatheredRows, GatheredAs, graphOf}
 use Rattle.graphs.specs.Graphs.{firstRows, lastRows, noRows, reachGraph, liveGraph, reachOf, liveOf}
 use Rattle.graphs.specs.TaskRows.{KindRows, TaskRows, AreaRows, BothGathered}
 use Rattle.graphs.proofs.Listed.{last-at, reach-listed, live-listed}
@@ -121,10 +122,10 @@ module _ (kind : ℕ) (area new : List ℕ) (long : length area ≡ 2 * kind + 2
     pub whole-long : length whole ≡ 2 * kind + 256
     whole-long = ap length whole-is ∙ replaced-length half live kind kind fits size' ∙ half-long
 
-    whole-first : take kind whole ≡ new
+    pub whole-first : take kind whole ≡ new
     whole-first = ap (take kind) whole-is ∙ replaced-before half live kind kind fits size' kind 0 (omega arith) ∙ half-first
 
-    whole-second : take kind (drop kind whole) ≡ live
+    pub whole-second : take kind (drop kind whole) ≡ live
     whole-second = ap (λ (l : List ℕ). take kind (drop kind l)) whole-is ∙ replaced-here half live kind kind fits size'
 
 module _ (r l : Graph) (area new : List ℕ) (long : length area ≡ areaLength (r .width)) {counts : List ℕ} {first : Bool} (h : GatheredAs r new counts first) where
@@ -156,6 +157,10 @@ module _ (r l : Graph) (area new : List ℕ) (long : length area ≡ areaLength 
 
 -- ---- the states of a task
 
+-- rows that were gathered, in some order
+pub held-sorted : {w : ℕ} {all : ℕ → List (List ℕ)} {rows counts : List ℕ} (b : ℕ) → GatheredRows w all rows counts b → sorted (heldRows w rows counts b) ≡ all b
+held-sorted b g = rw (g .count) (g .list)
+
 module _ (k : Cache) (t : Task) (bounds : InBounds t) {blocks : ℕ} {sets : List ℕ} (eb : blocks ≡ length t) (es : sets ≡ jumpSets t) where
   abbrev w : ℕ
   w = k .width
@@ -163,7 +168,7 @@ module _ (k : Cache) (t : Task) (bounds : InBounds t) {blocks : ℕ} {sets : Lis
   real : All Real (memoryBlocks t)
   real = blocks-real (length t) t (bounds .each)
 
-  reach-same : {last : List ℕ} → last ≡ lastRows k t → reachOf w blocks sets last ≡ reachGraph k t
+  pub reach-same : {last : List ℕ} → last ≡ lastRows k t → reachOf w blocks sets last ≡ reachGraph k t
   reach-same el = λ i. record {
     width = w;
     blocks = eb i;
@@ -174,7 +179,7 @@ module _ (k : Cache) (t : Task) (bounds : InBounds t) {blocks : ℕ} {sets : Lis
     row = (ap (λ l. rowAt w l 0) el ∙ last-at k t 0 (bounds .some)) i;
   }
 
-  live-same : {first : List ℕ} → first ≡ firstRows k t → liveOf w blocks sets first ≡ liveGraph k t
+  pub live-same : {first : List ℕ} → first ≡ firstRows k t → liveOf w blocks sets first ≡ liveGraph k t
   live-same ef = λ i. record {
     width = w;
     blocks = eb i;

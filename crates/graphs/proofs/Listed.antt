@@ -103,11 +103,11 @@ module _ (k : Cache) (t : Task) (few : length t ≤ 24) (some : 1 ≤ length t) 
   last b = withReferences k (emptyRow k) (block t b .references)
 
   -- what a row becomes along the graph of reaching states
-  reach-hand : (b s : ℕ) (row : List ℕ) → b < 24 → s < length t → length row ≡ k .width → handedOn (reachGraph k t) b s row ≡ withReferences k row (block t s .references)
+  pub reach-hand : (b s : ℕ) (row : List ℕ) → b < 24 → s < length t → length row ≡ k .width → handedOn (reachGraph k t) b s row ≡ withReferences k row (block t s .references)
   reach-hand b s row hb hs e =
       rw (none-of (k .width) b hb, overlay-empty k row e, last-at k t s hs) (overlay-references k row (block t s .references) e (block-real t real s))
 
-  reach-leads : (b s : ℕ) → b < length t → s < length t → inSet (getD (jumpSets t) b 0) s ≡ mem eqb s (block t b .successors)
+  pub reach-leads : (b s : ℕ) → b < length t → s < length t → inSet (getD (jumpSets t) b 0) s ≡ mem eqb s (block t b .successors)
   reach-leads b s hb hs = ap (λ x. inSet x s) (jump-at t (replicate (24 - length t) 0) b hb) ∙ in-setOf (block t b .successors) s (omega arith)
 
   reaches-long : (b : ℕ) (row : List ℕ) → Reaches k t b row → length row ≡ k .width
@@ -138,12 +138,12 @@ module _ (k : Cache) (t : Task) (few : length t ≤ 24) (some : 1 ≤ length t) 
 
   -- ---- live states
 
-  live-hand : (b s : ℕ) (row : List ℕ) → b < length t → s < 24 → length row ≡ k .width → handedOn (liveGraph k t) b s row ≡ firstsOver k (block t b .references) row
+  pub live-hand : (b s : ℕ) (row : List ℕ) → b < length t → s < 24 → length row ≡ k .width → handedOn (liveGraph k t) b s row ≡ firstsOver k (block t b .references) row
   live-hand b s row hb hs e =
       rw (none-of (k .width) s hs, first-at k t b hb, overlay-firsts k row (block t b .references) e (block-real t real b))
       (overlay-empty k (firstsOver k (block t b .references) row) (length-firstsOver k (block t b .references) row e))
 
-  live-leads : (b s : ℕ) → b < 24 → s < length t → inSet (getD (predecessorSets t 24 0) b 0) s ≡ mem eqb b (block t s .successors)
+  pub live-leads : (b s : ℕ) → b < 24 → s < length t → inSet (getD (predecessorSets t 24 0) b 0) s ≡ mem eqb b (block t s .successors)
   live-leads b s hb hs =
       ap (λ x. inSet x s) (predecessor-set t 24 0 b hb ∙ ap (predecessorSet t) (zero-add b)) ∙ bits-test 24 s (λ c. mem eqb b (block t c .successors)) (omega arith)
 

@@ -21,7 +21,7 @@ use cache::row::Row;
 use gather::gather::gather;
 
 // No reference of any block, in rows of up to 32 numbers.
-const NO_ROWS: [u16; 768] = [Row::NOTHING; 768];
+pub const NO_ROWS: [u16; 768] = [Row::NOTHING; 768];
 
 // The rows that blocks hand on to their successors, each overlaid by the last references of the block that gets it. Left open is what
 // `gather` leaves open.
@@ -101,13 +101,19 @@ fn gather_both(
 }
 
 // The blocks of a body, and for each the set of its successors.
-struct Jumps {
-    blocks: usize,
-    sets: [u32; 24],
+pub struct Jumps {
+    pub blocks: usize,
+    pub sets: [u32; 24],
 }
 
 // What both graphs of a body are made of: its jumps, and the first and the last references of each block.
-fn graphs(body: &[u8], shape: CacheShape, w: usize, first: &mut [u16], last: &mut [u16]) -> Jumps
+pub fn graphs(
+    body: &[u8],
+    shape: CacheShape,
+    w: usize,
+    first: &mut [u16],
+    last: &mut [u16],
+) -> Jumps
     requires { ⌜ (keptOf (decode (now body)) ≡ true) × Holds w shape × Width w × (now first ≡ noRows w) × (now last ≡ noRows w) ⌝ }
     ensures { λ r. ⌜ (r .blocks ≡ length (taskOf (decode (now (body .entry))))) × (r .sets ≡ jumpSets (taskOf (decode (now (body .entry)))))
         × (now (first .exit) ≡ firstRows (shaped w shape) (taskOf (decode (now (body .entry)))))

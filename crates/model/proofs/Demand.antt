@@ -27,7 +27,7 @@ use Rattle.model.proofs.Bounds.{bounded, mine, apart-run}
 
 module _ (k : Cache) (ts : List Task) (ok : Rules ts) (i j : ℕ) (hi : i < length ts) (hj : j < length ts) (ne : j ≢ i) where
   -- the run of i with one preemption by j at a point of its path
-  abbrev once : (path : List ℕ) (point : ℕ) (q : List ℕ) → Complete (task ts i) path → point < length path → Unmasked (task ts i) (getD path point 0)
+  abbrev pub once : (path : List ℕ) (point : ℕ) (q : List ℕ) → Complete (task ts i) path → point < length path → Unmasked (task ts i) (getD path point 0)
       → Complete (task ts j) q → DisturbedRun ts
   once path point q c l u d = record {
     p = i;
@@ -53,7 +53,7 @@ module _ (k : Cache) (ts : List Task) (ok : Rules ts) (i j : ℕ) (hi : i < leng
   -- ---- some rows of paths give the number
 
   -- D of a path of i, split after the block that is preempted along the complete path q of j
-  split-cost : (pre post q : List ℕ) (c : Complete (task ts i) (0 ∷ (pre ++ post))) (l : length pre < suc (length (pre ++ post)))
+  pub split-cost : (pre post q : List ℕ) (c : Complete (task ts i) (0 ∷ (pre ++ post))) (l : length pre < suc (length (pre ++ post)))
       (u : Unmasked (task ts i) (getD (0 ∷ (pre ++ post)) (length pre) 0)) (d : Complete (task ts j) q)
       → D k (once (0 ∷ (pre ++ post)) (length pre) q c l u d)
       ≡ U k (once (0 ∷ (pre ++ post)) (length pre) q c l u d)

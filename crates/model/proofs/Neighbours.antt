@@ -183,7 +183,7 @@ over-all = (refl, refl)
 pub over-all-1 : NumberOverAll (direct 2) (task tasksMasked0 0) (task tasksMasked0 1) 1
 over-all-1 = rw (over-all .0) at (over-all-is (direct 2) (task tasksMasked0 0) (task tasksMasked0 1))
 
-all-masked : SomeUnmasked (task tasksMasked0 0) → ⊥
+pub all-masked : SomeUnmasked (task tasksMasked0 0) → ⊥
 all-masked (zero, l, e) = omega (arith, e)
 all-masked (suc b, l, e) = omega (arith, l)
 

@@ -84,7 +84,7 @@ module _ (rs ls : ℕ → List (List ℕ)) where
 -- ---- the number
 
 -- of rows as wide as the cache's
-counts-as : (k : Cache) (r l f : List ℕ) → length r ≡ k .width → length f ≡ k .width → ones (bitAnd (usefulSet r l) (usedSet f)) ≡ usefulUsed k r l f
+pub counts-as : (k : Cache) (r l f : List ℕ) → length r ≡ k .width → length f ≡ k .width → ones (bitAnd (usefulSet r l) (usedSet f)) ≡ usefulUsed k r l f
 counts-as k r l f p q =
     ap₂ (λ (x y : ℕ). ones (bitAnd (bits x (useful r l)) (bits y (used f)))) p q ∙ ones-useful-used k r l f
 

@@ -15,7 +15,7 @@ pub enum Reading {
     Refused { check: u8, task: u8 },
 }
 
-// What writing a file answers: how many bytes were written, or the check that fails first and the task it names.
+// What writing a file or a sheet answers: how many bytes or numbers were written, or the check that fails first and the task it names.
 pub enum Writing {
     Written { length: usize },
     Refused { check: u8, task: u8 },

@@ -24,7 +24,7 @@ use Rattle.body.proofs.WalksParts.{part-is}
 use Rattle.project.specs.File.{cacheBlocks, taskCount}
 use Rattle.project.specs.Tasks.{tasksOf, fileShape, fileCache}
 use Rattle.reader.proofs.TaskBodies.{TaskBody, task-body, task-bounds}
-use Rattle.sheet.specs.Sheet.{SheetRun, preemptionNumbers, PreemptionInRules, InRules}
+use Rattle.sheet.specs.Sheet.{SheetRun, preemptionNumbers, longestPath, PreemptionInRules, InRules}
 use Rattle.sheet.specs.Parsed.{leadsToEnd, completePath, eachPasses, completeBy}
 use Rattle.sheet.proofs.Places.{SheetPlaces, path-part, PreemptionPlaces, preemption-places, none-left}
 use Rattle.runs.specs.Running.{rowCount, ownPath}
@@ -87,18 +87,18 @@ byPart sheet at m = take (at + 3 + m - (at + 3)) (drop (at + 3) sheet)
 -- the own blocks from the position i up to j can be run, by the task p
 pub record OwnRun (s sheet : List ℕ) (misses i p j : ℕ) : Type 0 where
   pub low : i ≤ j
-  pub short : j ≤ 64
+  pub short : j ≤ longestPath
   pub within : 2 + j ≤ length sheet
   pub there : p < taskCount s
   pub below : All (λ (b : ℕ). b < length (task (tasksOf s) p)) (ownPart sheet i j)
-  pub few : misses + 16 * length (ownPart sheet i j) ≤ 1024
+  pub few : misses + 16 * length (ownPart sheet i j) ≤ 16 * longestPath
 
 -- the path of the preemption at `at`, of m blocks of the task y, can be run
 pub record ByRun (s sheet : List ℕ) (at y m : ℕ) : Type 0 where
   pub there : y < taskCount s
   pub within : at + 3 + m ≤ length sheet
   pub below : All (λ (b : ℕ). b < length (task (tasksOf s) y)) (byPart sheet at m)
-  pub few : length (byPart sheet at m) ≤ 64
+  pub few : length (byPart sheet at m) ≤ longestPath
 
 module _ (s sheet : List ℕ) (shape : CacheShape) (h : Passed13 s sheet) (blocks : shape ≡ fileShape s) where
   abbrev k : Cache
@@ -302,7 +302,7 @@ module _ (s sheet : List ℕ) (shape : CacheShape) (h : Passed13 s sheet) (block
     pub quiet-below : All (λ (b : ℕ). b < length (task ts p)) (take (2 + long - 2) (drop 2 sheet))
     quiet-below = rw (own-task ep, own-path s sheet facts ep el) own-blocks
 
-    pub quiet-few : length (take (2 + long - 2) (drop 2 sheet)) ≤ 64
+    pub quiet-few : length (take (2 + long - 2) (drop 2 sheet)) ≤ longestPath
     quiet-few = omega (arith, ap length (own-path s sheet facts ep el), facts .rules .bounds .few)
 
     pub quiet-end : {row c1 : List ℕ} {m1 : ℕ} → row ≡ emptyRow k → rowCount c1 m1 ≡ ownPath k (task ts p) (rowCount row 0) (take (2 + long - 2) (drop 2 sheet)) → m1 ≡ undisturbedIn s r

@@ -29,7 +29,7 @@ use Rattle.project.proofs.Verdicts.{file-agreeing}
 use Rattle.project.proofs.Accepted.{then-passed, passing, accepted-passed}
 use Rattle.project.proofs.FileRules.{file-demand-3}
 use Rattle.reader.proofs.TaskBodies.{reading, passing-accepted, tasks-long, task-bounds}
-use Rattle.sheet.specs.Sheet.{preemptionNumbers, sheetNumbers, Fault12, Fault13, Fault16, Fits, sheetRun}
+use Rattle.sheet.specs.Sheet.{preemptionNumbers, sheetNumbers, longestPath, Fault12, Fault13, Fault16, Fits, sheetRun}
 use Rattle.sheet.specs.Parsed.{Parsed, broken, parsed, parse, keptSheet, runOf, completePath}
 use Rattle.sheet.proofs.Parsing.{parsed-rules, broken-fault, fault-broken}
 use Rattle.sheet.proofs.CompletePaths.{complete-exact}
@@ -141,7 +141,7 @@ module _ (s : List ℕ) (h : accepted (readingOf s) ≡ true) where
   below j path l c =
       all-map (λ b k. omega (arith, task-bounds s j h (rw (tasks-long s) at l) .few)) path (complete-blocks (task (tasksOf s) j) path c)
 
-  each-below : (p : ℕ) (path : List ℕ) (xs : List Preemption) → length path ≤ 64 → Each (Preempts (tasksOf s) p path) xs → Each (λ (x : Preemption). length (x .path) ≤ 64) xs
+  each-below : (p : ℕ) (path : List ℕ) (xs : List Preemption) → length path ≤ longestPath → Each (Preempts (tasksOf s) p path) xs → Each (λ (x : Preemption). length (x .path) ≤ longestPath) xs
       → All (λ (x : ℕ). x < 65536) (preemptionNumbers xs)
   each-below p path [] k e f = tt
   each-below p path (x ∷ xs) k e f = (

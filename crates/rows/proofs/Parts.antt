@@ -174,6 +174,13 @@ module _ (n : ℕ) (l rows : List ℕ) {new : List ℕ} (same : new ≡ rows) (l
   pub front-room : n ≤ length (putMid 0 (n - 0) l new)
   front-room = rw (length-append new (drop (n - 0) l)) (omega (arith, ap length same))
 
+-- the parts of an area that were lent, as the code cuts them
+pub lent-first : (n : ℕ) (l : List ℕ) → take (n - 0) (drop 0 l) ≡ take n l
+lent-first n l = rw (sub-zero n)
+
+pub lent-second : (n : ℕ) (l : List ℕ) → take (n + n - n) (drop n l) ≡ take n (drop n l)
+lent-second n l = let e : n + n - n ≡ n = omega arith in rw e
+
 -- a part of a part
 pub part-of-part : (n a m : ℕ) (l : List ℕ) → a + n ≤ m → take n (drop a (take m l)) ≡ take n (drop a l)
 part-of-part n zero m l h = take-take n m l (omega arith)

@@ -12,7 +12,7 @@ use borrow.Author.Tests.{eqb-false, ne-eqb, ltb-true, lt-ltb, leb-true, le-leb, 
 use Rattle.model.specs.Lists.{Each}
 use Rattle.model.specs.Runs.{Preemption, NeverFall}
 use Rattle.model.proofs.Membership.{both-left, both-right}
-use Rattle.sheet.specs.Sheet.{SheetRun, preemptionNumbers, sheetNumbers, PathInBounds, PreemptionInRules, InRules, Keeps, Fault12}
+use Rattle.sheet.specs.Sheet.{SheetRun, preemptionNumbers, sheetNumbers, longestPath, PathInBounds, PreemptionInRules, InRules, Keeps, Fault12}
 use Rattle.sheet.specs.Parsed.{ParsedList, brokenList, parsedList, withPreemption, pathTest, preemptionTest, preemptionsFrom, Parsed, broken, parsed, withPath, afterPath, parse, keptSheet, runOf}
 
 -- ---- points that never fall, from the point `low` on
@@ -38,7 +38,7 @@ never-fall low (x ∷ y ∷ xs) h = (h .1 .0, never-fall (x .point) (y ∷ xs) (
 
 path-passes : (path rest : List ℕ) → PathInBounds path → pathTest (length path) (path ++ rest) ≡ true
 path-passes path rest h =
-    rw (length-append path rest, le-leb 1 (length path) (h .some), le-leb (length path) 64 (h .few), le-leb (length path) (length path + length rest) (omega arith))
+    rw (length-append path rest, le-leb 1 (length path) (h .some), le-leb (length path) longestPath (h .few), le-leb (length path) (length path + length rest) (omega arith))
 
 preemption-passes : (t p long low : ℕ) (x : Preemption) (rest : List ℕ) → PreemptionInRules t p long x → low ≤ x .point
     → preemptionTest t p long low (x .point) (x .by) (length (x .path)) (x .path ++ rest) ≡ true
@@ -84,13 +84,13 @@ record PathRead (k : ℕ) (rest : List ℕ) : Type 0 where
   bounds : PathInBounds (take k rest)
 
 pub path-there : (k : ℕ) (rest : List ℕ) → pathTest k rest ≡ true → k ≤ length rest
-path-there k rest e = leb-true k (length rest) (both-right (leb k 64) _ (both-right (leb 1 k) _ e))
+path-there k rest e = leb-true k (length rest) (both-right (leb k longestPath) _ (both-right (leb 1 k) _ e))
 
 path-read : (k : ℕ) (rest : List ℕ) → pathTest k rest ≡ true → PathRead k rest
 path-read k rest e =
     let e1 = both-right (leb 1 k) _ e in
     let some = leb-true 1 k (both-left (leb 1 k) _ e) in
-    let few = leb-true k 64 (both-left (leb k 64) _ e1) in
+    let few = leb-true k longestPath (both-left (leb k longestPath) _ e1) in
     let there = path-there k rest e in
     let long : length (take k rest) ≡ k = simp length-take (omega arith) in
     record { long = long; bounds = record { some = omega arith; few = omega arith } }

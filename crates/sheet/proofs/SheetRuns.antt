@@ -10,7 +10,7 @@ use lib.ListN.{length, getD}
 use Rattle.model.specs.Lists.{Each}
 use Rattle.model.specs.Tasks.{Task, Unmasked, Complete, task}
 use Rattle.model.specs.Runs.{Preemption, Preempts, DisturbedRun}
-use Rattle.sheet.specs.Sheet.{SheetRun, sheetNumbers, PathInBounds, PreemptionInRules, InRules, AllComplete, Fault13, AvoidsMasked, Fault16, Fits, sheetRun}
+use Rattle.sheet.specs.Sheet.{SheetRun, sheetNumbers, longestPath, PathInBounds, PreemptionInRules, InRules, AllComplete, Fault13, AvoidsMasked, Fault16, Fits, sheetRun}
 use Rattle.sheet.specs.Parsed.{parsed, parse, completeAll, unmaskedAll}
 use Rattle.sheet.proofs.Parsing.{parse-numbers, Parses, parsed-rules, one-run}
 use Rattle.sheet.proofs.CompletePaths.{all-complete, all-unmasked}
@@ -48,7 +48,7 @@ complete-some : (t : Task) (path : List ℕ) → Complete t path → 1 ≤ lengt
 complete-some t [] h = absurd h
 complete-some t (b ∷ path) h = omega arith
 
-in-rules : (ts : List Task) (p : ℕ) (path : List ℕ) (xs : List Preemption) → Each (Preempts ts p path) xs → Each (λ (x : Preemption). length (x .path) ≤ 64) xs
+in-rules : (ts : List Task) (p : ℕ) (path : List ℕ) (xs : List Preemption) → Each (Preempts ts p path) xs → Each (λ (x : Preemption). length (x .path) ≤ longestPath) xs
     → Each (PreemptionInRules (length ts) p (length path)) xs
 in-rules ts p path [] h b = tt
 in-rules ts p path (x ∷ xs) h b = (

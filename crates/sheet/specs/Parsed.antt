@@ -10,7 +10,7 @@ use Rattle.model.specs.Lists.{mem}
 use Rattle.model.specs.Tasks.{Block, Task, Path, block, end, task}
 use Rattle.model.specs.Runs.{Preemption}
 use Rattle.model.specs.Computed.{unmasked}
-use Rattle.sheet.specs.Sheet.{SheetRun, Sheet}
+use Rattle.sheet.specs.Sheet.{SheetRun, Sheet, longestPath}
 
 -- preemptions, or none where the numbers break the rules
 pub data ParsedList : Type 0 where
@@ -23,7 +23,7 @@ withPreemption x (parsedList xs) = parsedList (x ∷ xs)
 
 -- a path of k blocks stands at the beginning of `rest`
 abbrev pub pathTest : ℕ → List ℕ → Bool
-pathTest k rest = leb 1 k && (leb k 64 && leb k (length rest))
+pathTest k rest = leb 1 k && (leb k longestPath && leb k (length rest))
 
 -- a preemption with these numbers keeps the rules, where the point before it is `low`
 abbrev pub preemptionTest : ℕ → ℕ → ℕ → ℕ → ℕ → ℕ → ℕ → List ℕ → Bool

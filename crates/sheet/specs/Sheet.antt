@@ -1,4 +1,5 @@
--- Document 01, "Calls": the run sheet of Replay, and checks 12 and 13 against it; document 02, Point 1: check 16. Definitions only.
+-- Document 01, "Calls": the run sheet of Replay, and checks 12 and 13 against it; document 02, Point 1: check 16, and Point 3: the
+-- longest path of a sheet. Definitions only.
 use mathlib.Core.Path.{_≡_}
 use mathlib.Core.Logic.{_≢_}
 use mathlib.Core.List.{List, [], _∷_, _++_}
@@ -27,14 +28,19 @@ preemptionNumbers (x ∷ xs) = x .point ∷ x .by ∷ (pathNumbers (x .path) ++ 
 abbrev pub Sheet : Type 0
 Sheet = List ℕ
 
--- "a run sheet of two-byte numbers: task p; path length 1 to 64; the blocks; preemption count 0 to 16; for each .."
+-- "a run sheet of two-byte numbers: task p; path length 1 to 64; the blocks; preemption count 0 to 16; for each .."; Point 3 of document
+-- 02 moved the 64, see `longestPath`
 abbrev pub sheetNumbers : SheetRun → Sheet
 sheetNumbers r = r .p ∷ (pathNumbers (r .path) ++ (length (r .preemptions) ∷ preemptionNumbers (r .preemptions)))
 
--- "path length 1 to 64"
+-- document 02, Point 3: "Sheet paths may now have up to 1,536 blocks, which is enough for 24 blocks of 32 states."
+abbrev pub longestPath : ℕ
+longestPath = 1536
+
+-- document 01: "path length 1 to 64"; Point 3 of document 02 moved the 64 to `longestPath`
 pub record PathInBounds (path : Path) : Type 0 where
   pub some : 1 ≤ length path
-  pub few : length path ≤ 64
+  pub few : length path ≤ longestPath
 
 -- a preemption of a path of `long` blocks of the task p, in a file of t tasks: "Points lie in the path ..."; "A preempting task isn't p."
 pub record PreemptionInRules (t p long : ℕ) (x : Preemption) : Type 0 where
@@ -76,11 +82,16 @@ AvoidsMasked ts r = Each (λ (x : Preemption). Unmasked (task ts (r .p)) (getD (
 abbrev pub Fault16 : List Task → Sheet → Type 0
 Fault16 ts sheet = (r : SheetRun) × InRules (length ts) r × (sheet ≡ sheetNumbers r) × (AvoidsMasked ts r → ⊥)
 
--- what a sheet can hold: "path length 1 to 64", "preemption count 0 to 16"
+-- what a sheet can hold: "path length 1 to 64", of which Point 3 of document 02 moved the 64 to `longestPath`, and "preemption count 0
+-- to 16"
 pub record Fits (ts : List Task) (run : DisturbedRun ts) : Type 0 where
-  pub short : length (run .path) ≤ 64
+  pub short : length (run .path) ≤ longestPath
   pub few : length (run .preemptions) ≤ 16
-  pub each : Each (λ (x : Preemption). length (x .path) ≤ 64) (run .preemptions)
+  pub each : Each (λ (x : Preemption). length (x .path) ≤ longestPath) (run .preemptions)
 
 abbrev pub sheetRun : (ts : List Task) → DisturbedRun ts → SheetRun
 sheetRun ts run = record { p = run .p; path = run .path; preemptions = run .preemptions }
+
+-- the sheet of a disturbed run
+abbrev pub runNumbers : (ts : List Task) → DisturbedRun ts → Sheet
+runNumbers ts run = sheetNumbers (sheetRun ts run)

@@ -6,7 +6,7 @@ ghost use Rattle.sheet.specs.Parsed.{pathTest, preemptionTest, preemptio
 use cache::numbers::count;
 
 // The most blocks of a path.
-const BLOCKS: usize = 64;
+const BLOCKS: usize = 1536;
 
 // The most preemptions.
 const PREEMPTIONS: usize = 16;

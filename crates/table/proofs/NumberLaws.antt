@@ -3,8 +3,7 @@
 use mathlib.Core.Path.{_≡_, refl, sym, ap, _∙_}
 use mathlib.Core.Bool.{Bool, true, false, true≢false}
 use mathlib.Core.List.{List}
-use Prim.Native.Nat.{ℕ, _+_, _-_, _≤_, _<_, max}
-use native.Mathlib.Nat.{sub-zero}
+use Prim.Native.Nat.{ℕ, _≤_, _<_, max}
 use native.Mathlib.Omega.{arith}
 use lib.ListN.{length, getD, take, drop, replicate, length-replicate}
 use Rattle.cache.specs.Cache.{Cache}
@@ -18,6 +17,7 @@ use Rattle.gather.specs.Graph.{tooMany}
 use Rattle.gather.specs.Memory.{heldRows, Memory}
 use Rattle.gather.specs.Gathered.{GatheredRows}
 use Rattle.graphs.specs.TaskRows.{test11, AreaRows}
+use Rattle.graphs.proofs.Gathered.{held-sorted}
 use Rattle.project.proofs.Accepted.{or-false-left, or-false-right}
 use Rattle.area.proofs.Areas.{few-rows}
 use Rattle.pairs.specs.Pairs.{mostCommon, within, taskUseful, usedOf, Met}
@@ -25,21 +25,10 @@ use Rattle.pairs.proofs.PairNumbers.{pair-number}
 use Rattle.table.specs.Found.{Few, UsedFound, NumbersFound}
 use Rattle.table.proofs.UsedLaws.{getD-zeros}
 
--- rows that were gathered, in some order
-held-sorted : {w : ℕ} {all : ℕ → List (List ℕ)} {rows counts : List ℕ} (b : ℕ) → GatheredRows w all rows counts b → sorted (heldRows w rows counts b) ≡ all b
-held-sorted b g = rw (g .count) (g .list)
-
 gathered-memory : {w : ℕ} (all : ℕ → List (List ℕ)) {rows counts : List ℕ} → Width w → length rows ≡ kindLength w → length counts ≡ 24 → tooMany all 24 ≡ false
     → ((b : ℕ) → b < 24 → GatheredRows w all rows counts b) → Memory w rows counts
 gathered-memory all width long many none g =
     record { width = width; long = long; many = many; few = λ b l. let few = few-rows all none b l in omega (arith, g b l .count, few) }
-
--- the parts of an area that were lent, as the code cuts them
-pub lent-first : (n : ℕ) (l : List ℕ) → take (n - 0) (drop 0 l) ≡ take n l
-lent-first n l = rw (sub-zero n)
-
-pub lent-second : (n : ℕ) (l : List ℕ) → take (n + n - n) (drop n l) ≡ take n (drop n l)
-lent-second n l = let e : n + n - n ≡ n = omega arith in rw e
 
 -- rows and live are the rows of each kind
 module _ (k : Cache) (t : Task) {area reached lived : List ℕ} {full : Bool} (h : AreaRows k t area reached lived full) where

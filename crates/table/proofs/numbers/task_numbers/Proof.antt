@@ -6,7 +6,8 @@ use lib.ListN.{length, length-replicate}
 use Rattle.cache.specs.Shape.{shaped}
 use Rattle.body.specs.Decode.{decode, taskOf}
 use Rattle.rows.specs.Rows.{kindLength}
-use Rattle.table.proofs.NumberLaws.{lent-first, lent-second, numbers-full, numbers-few, reaching-memory, live-memory}
+use Rattle.rows.proofs.Parts.{lent-first, lent-second}
+use Rattle.table.proofs.NumberLaws.{numbers-full, numbers-few, reaching-memory, live-memory}
 use borrow.Author.Needs.{needs}
 use Rattle.table.proofs.numbers.task_numbers.Statement.{statement}
 use Rattle.table.proofs.numbers.task_numbers.Tie as tie

@@ -1,0 +1,5 @@
+pub mod CostliestRuns
+pub mod CostliestVerdicts
+pub mod FoundRows
+pub mod FindLaws
+pub mod Answers

@@ -1,0 +1,3 @@
+pub mod Raising
+pub mod FirstIn
+pub mod FoundNumbers

@@ -1,0 +1,3 @@
+pub mod TrailLaws
+pub mod NoteLaws
+pub mod WriteLaws
