@@ -249,7 +249,7 @@ pub fn largest_sheet() -> Vec<u16> {
     full_sheet(8, |_| path(5, 6, 64))
 }
 
-/// For the largest file, with paths as long as a sheet takes.
+/// For the largest file, with as many rounds as 1,536 blocks allow.
 pub fn longest_sheet() -> Vec<u16> {
     full_sheet(8, |_| path(5, 6, 1536))
 }

@@ -386,7 +386,7 @@ fn block_starts(task: &Task) -> Vec<usize> {
 }
 
 /// A complete path of at most 1,536 blocks, most often of at most 64: some steps at random, and then a shortest way to the
-/// end, of at most 23 steps.
+/// end, of at most 24 steps.
 fn path(random: &mut Random, task: &Task) -> Vec<u16> {
     let end = task.len() - 1;
     let mut far = vec![usize::MAX; task.len()];
@@ -397,7 +397,7 @@ fn path(random: &mut Random, task: &Task) -> Vec<u16> {
             far[b] = nearest.unwrap_or(usize::MAX);
         }
     }
-    let wandering = if random.one_in(40) { random.below(1514) } else { random.below(41) };
+    let wandering = if random.one_in(40) { random.below(1513) } else { random.below(41) };
     let mut blocks = vec![0];
     loop {
         let last = blocks[blocks.len() - 1];

@@ -425,10 +425,14 @@ impl Asked {
 fn run_faults(
     analysed: &Analysis, expected: &Result<Cost, independent::Refusal>, answer: Result<usize, independent::Refusal>,
     sheet: &[u16],
-) -> [Option<String>; 2] {
-    let (run, after) = sheet.split_at(answer.unwrap_or(0));
+) -> [Option<String>; 3] {
+    let (run, after) = sheet.split_at(answer.unwrap_or(0).min(sheet.len()));
     let found = answer.and_then(|_| independent::cost(analysed, run));
-    [differ("run", &[expected], &[&found]), differ("after the run", &vec![OLD_NUMBER; after.len()], after)]
+    [
+        differ("run", &[expected], &[&found]),
+        differ("after the run", &vec![OLD_NUMBER; after.len()], after),
+        (run.len() > 2310).then(|| format!("a run of {} numbers", run.len())),
+    ]
 }
 
 /// Which run is written, and with it its length, is left free: the independent implementation replays it. The work areas are
@@ -457,7 +461,7 @@ fn compare_costliest_run(report: &mut Report, file: &[u8], analysed: &Analysis, 
             name = "no unmasked block";
         }
         if status == 0 {
-            compare_replay(report, file, &sheet[..found[1]], 3);
+            compare_replay(report, file, &sheet[..found[1].min(room)], 3);
         }
     } else {
         for (name, list) in [("first area", &first), ("second area", &second), ("sheet", &sheet)] {

@@ -12,7 +12,7 @@ use Rattle.project.specs.declared.answers.Check.the-variants.{Passed}
 use Rattle.project.specs.declared.answers.Check.the-variants.{Refused as Failed}
 use Rattle.project.specs.declared.answers.Writing.{Writing}
 use Rattle.project.specs.declared.answers.Writing.the-variants.{Written, Refused}
-use Rattle.project.specs.Checklist.{noTask, verdictOf}
+use Rattle.project.specs.Checklist.{noTask}
 use Rattle.project.specs.File.{taskCount}
 use Rattle.project.specs.Reading.{fileChecks, fileCheck, readingOf}
 use Rattle.project.specs.Bodies.{accepted}

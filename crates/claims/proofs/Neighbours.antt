@@ -8,7 +8,7 @@ use lib.ListN.{length, set}
 use Rattle.cache.specs.References.{nothing, numbers}
 use Rattle.model.specs.Tasks.{SomeUnmasked, stay, task}
 use Rattle.model.specs.Numbers.{NumberOverAll}
-use Rattle.model.specs.Runs.{DisturbedRun}
+use Rattle.model.specs.Runs.{DisturbedRun, OnceBy}
 use Rattle.model.proofs.Neighbours.{over-all-1, all-masked, none-costs-1, masked-1}
 use Rattle.body.specs.Decode.{decode, blocksFrom}
 use Rattle.project.specs.FileE.{fileE}
@@ -17,7 +17,7 @@ use Rattle.project.specs.Reading.{readingOf}
 use Rattle.project.specs.Tasks.{tasksOf, fileCache, filePair}
 use Rattle.replay.specs.declared.Replaying.the-variants.{Counted}
 use Rattle.replay.specs.Replay.{replayingOf}
-use Rattle.costliest.specs.Costliest.{OnceBy, Costliest}
+use Rattle.costliest.specs.Costliest.{Costliest}
 use Rattle.claims.specs.Demand.{fileU, fileD}
 use Rattle.claims.proofs.Papers.{papers}
 

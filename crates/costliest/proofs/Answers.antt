@@ -1,11 +1,10 @@
 -- The ways out of the call: what each answers, and what it leaves in the sheet, is what the definitions say.
 -- The idea: a check that passed leaves the next one.
 use mathlib.Core.Path.{_≡_, refl, sym, ap, subst, _∙_}
-use mathlib.Core.Bool.{true, false, not}
+use mathlib.Core.Bool.{false}
 use mathlib.Core.List.{List, _++_}
 use Prim.Native.Nat.{ℕ, _+_, _≤_}
 use native.Mathlib.Omega.{arith}
-use lib.Dec.{eqb, ltb}
 use lib.ListN.{length, drop, length-append}
 use borrow.Author.Tests.{eq-eqb, ne-eqb, ltb-false}
 use Rattle.project.specs.declared.answers.Check.{Check}
@@ -23,8 +22,8 @@ use Rattle.project.proofs.Accepted.{unless-passed}
 use Rattle.reader.proofs.TaskBodies.{refused-check}
 use Rattle.rows.specs.Rows.{areaLength}
 use Rattle.sheet.specs.Sheet.{runNumbers}
-use Rattle.costliest.specs.Costliest.{test1, test18, test19, askedChecks, twoChecks, costliestCheck, CostliestAnswer}
-use Rattle.run_sheet.specs.Joined.{sheetLength}
+use Rattle.costliest.specs.Costliest.{test18, test19, askedChecks, twoChecks, costliestCheck, CostliestAnswer}
+use Rattle.run_sheet.specs.Joined.{costliestSheetLength}
 
 -- the answer by another form of the verdict
 pub answer-as : (s : List ℕ) (i j : ℕ) (old new : List ℕ) (answer : Writing) {a b : Check} → a ≡ b → CostliestAnswer b s i j old answer new → CostliestAnswer a s i j old answer new
@@ -35,10 +34,10 @@ pub refused-as : (s : List ℕ) (i j : ℕ) (old : List ℕ) {r : Check} {c a : 
 refused-as s i j old {c = c} {a = a} e = answer-as s i j old old (Refused c a) e (refl, refl)
 
 -- what checks 18 and 19 leave where they pass
-pub asked-passed : (t i j : ℕ) (sheet : List ℕ) → verdictOf (askedChecks t i j sheet) ≡ Passed → (test18 t i j ≡ false) × (sheetLength ≤ length sheet)
+pub asked-passed : (t i j : ℕ) (sheet : List ℕ) → verdictOf (askedChecks t i j sheet) ≡ Passed → (test18 t i j ≡ false) × (costliestSheetLength ≤ length sheet)
 asked-passed t i j sheet e =
     let (none, rest) = unless-passed 18 noTask (test18 t i j) (andThen (unless 19 noTask (test19 sheet)) Passed) e in
-    (none, ltb-false (length sheet) sheetLength (unless-passed 19 noTask (test19 sheet) Passed rest .0))
+    (none, ltb-false (length sheet) costliestSheetLength (unless-passed 19 noTask (test19 sheet) Passed rest .0))
 
 module _ (w : ℕ) (s : List ℕ) (i j : ℕ) (first second sheet : List ℕ) where
   -- check 1: another length of either area

@@ -31,13 +31,13 @@ use Rattle.rows.specs.Rows.{partOf}
 use Rattle.rows.proofs.Parts.{rows-length}
 use Rattle.gather.specs.Memory.{heldRows}
 use Rattle.sheet.specs.Sheet.{SheetRun, longestPath, pathNumbers, sheetNumbers, sheetRun}
-use Rattle.trails.specs.Trails.{heldRow, parentAt, lengthAt, wayBack, wayTo}
+use Rattle.trails.specs.Trails.{heldRow, parentAt, lengthAt, wayBack}
 use Rattle.task_trails.specs.TaskTrails.{PathTo, PathOn, ReachTrails, LiveTrails}
 use Rattle.trails.proofs.WriteLaws.{length-to, length-back}
 use Rattle.search.specs.declared.Found.{Found}
 use Rattle.search.proofs.FoundNumbers.{MakesNumber}
 use Rattle.costliest.specs.Costliest.{Costliest, WrittenRun}
-use Rattle.run_sheet.specs.Joined.{pathTo, pathOn, joinedRun, sheetLength, HasTrail}
+use Rattle.run_sheet.specs.Joined.{pathTo, wayOn, joinedRun, costliestSheetLength, HasTrail}
 
 -- ---- the blocks of a trail
 
@@ -195,7 +195,7 @@ module _ (s : List ℕ) (bytes : Bytes s) (ok : accepted (readingOf s) ≡ true)
     by-short : suc (length (by-path .path)) ≤ longestPath
     by-short = omega (arith, by-long, has-by .few)
 
-    whole : 0 ∷ (own-path .path ++ way-on .path) ≡ pathTo to at ++ pathOn on from
+    whole : 0 ∷ (own-path .path ++ way-on .path) ≡ pathTo to at ++ wayOn on from
     whole = ap₂ (λ (l r : List ℕ). l ++ r) (sym (own-path .is)) (sym (back-rest (lengthAt on from) on from (x .block) (way-on .path) (way-on .is)))
 
     point : length (own-path .path) ≡ lengthAt to at - 1
@@ -226,14 +226,14 @@ module _ (s : List ℕ) (bytes : Bytes s) (ok : accepted (readingOf s) ≡ true)
     )
 
     -- the sheet is not longer than 2,310 numbers
-    on-rest : length (pathOn on from) ≡ lengthAt on from - 1
+    on-rest : length (wayOn on from) ≡ lengthAt on from - 1
     on-rest = length-back (lengthAt on from - 1) on (parentAt on from)
 
-    joined-few : (preempted : Bool) → length (sheetNumbers (joinedRun preempted i j to at on from by last)) ≤ sheetLength
+    joined-few : (preempted : Bool) → length (sheetNumbers (joinedRun preempted i j to at on from by last)) ≤ costliestSheetLength
     joined-few true = omega (
       arith,
-      length-append (pathTo to at ++ pathOn on from) (1 ∷ (lengthAt to at - 1) ∷ j ∷ (pathNumbers (pathTo by last) ++ [])),
-      length-append (pathTo to at) (pathOn on from),
+      length-append (pathTo to at ++ wayOn on from) (1 ∷ (lengthAt to at - 1) ∷ j ∷ (pathNumbers (pathTo by last) ++ [])),
+      length-append (pathTo to at) (wayOn on from),
       length-append (pathTo by last) [],
       length-to (lengthAt to at) to at,
       length-to (lengthAt by last) by last,
@@ -244,8 +244,8 @@ module _ (s : List ℕ) (bytes : Bytes s) (ok : accepted (readingOf s) ≡ true)
     )
     joined-few false = omega (
       arith,
-      length-append (pathTo to at ++ pathOn on from) (0 ∷ []),
-      length-append (pathTo to at) (pathOn on from),
+      length-append (pathTo to at ++ wayOn on from) (0 ∷ []),
+      length-append (pathTo to at) (wayOn on from),
       length-to (lengthAt to at) to at,
       on-rest,
       has-to .few,
@@ -265,7 +265,7 @@ module _ (s : List ℕ) (bytes : Bytes s) (ok : accepted (readingOf s) ≡ true)
         record {
           run = run;
           costliest = costs;
-          few = subst (λ (r : SheetRun). length (sheetNumbers r) ≤ sheetLength) (sym same) (joined-few preempted);
+          few = subst (λ (r : SheetRun). length (sheetNumbers r) ≤ costliestSheetLength) (sym same) (joined-few preempted);
           answered = ap Written (long ∙ ap (λ (r : SheetRun). length (sheetNumbers r)) run-is);
           sheet = is ∙ ap (λ (r : SheetRun). sheetNumbers r ++ drop (length (sheetNumbers r)) old) run-is;
         }

@@ -1,7 +1,7 @@
 -- What the call answers is the verdict on its checks: `costliest-verdict`; and there is no other: `costliest-unique`.
 -- The idea: 1, 18 and 19 compare numbers, 2 to 10 are those of the file, and of check 11 the two tasks' tests are left.
 use mathlib.Core.Path.{_≡_, refl, sym, ap, _∙_}
-use mathlib.Core.Logic.{_≢_, _⊎_, inl, inr, _↔_}
+use mathlib.Core.Logic.{_≢_, inl, inr, _↔_}
 use mathlib.Core.Bool.{Bool, true, false, not, _&&_, _||_, cond, true≢false, false≢true}
 use mathlib.Core.List.{List, [], _∷_, _++_, map}
 use Prim.Native.Nat.{ℕ, zero, suc, _+_, _≤_, _<_}
@@ -16,7 +16,7 @@ use Rattle.project.specs.declared.answers.Check.{Check}
 use Rattle.project.specs.declared.answers.Check.the-variants.{Passed}
 use Rattle.project.specs.declared.answers.Check.the-variants.{Refused as Failed}
 use Rattle.project.specs.File.{cacheBlocks, taskCount}
-use Rattle.project.specs.Checklist.{AllPass, Verdict, numbers, Of, lowest, verdictOf, Agreeing}
+use Rattle.project.specs.Checklist.{AllPass, Verdict, numbers, lowest, verdictOf, Agreeing}
 use Rattle.project.specs.Reading.{fileChecks}
 use Rattle.project.specs.Tasks.{tasksOf, fileCacheIn, fileCache}
 use Rattle.project.proofs.Checklists.{verdict-exact, verdict-unique, passed-computed, then-none, agreeing-append, of-exact}
@@ -26,7 +26,8 @@ use Rattle.reader.proofs.TaskBodies.{passing-accepted, task-body, tasks-long, t
 use Rattle.rows.specs.Rows.{areaLength}
 use Rattle.graphs.specs.TaskRows.{test11}
 use Rattle.graphs.proofs.TooMany.{test11-exact}
-use Rattle.costliest.specs.Costliest.{test18, Fault18, Fault19, forTwo, twoTests, FaultOfTwo, askedChecks, twoChecks, twoCheck, costliestChecks, costliestCheck}
+use Rattle.run_sheet.specs.Joined.{costliestSheetLength}
+use Rattle.costliest.specs.Costliest.{test18, Fault18, test19, Fault19, forTwo, twoTests, FaultOfTwo, askedChecks, twoChecks, twoCheck, costliestChecks, costliestCheck}
 
 -- ---- checks 18 and 19
 
@@ -40,11 +41,11 @@ not-below-exact t a = (λ e l. omega (arith, leb-true t a e), λ f. go f (ltb a 
     go f true e = absurd (f (ltb-true a t e))
     go f false e = le-leb t a (ltb-false a t e)
 
-exact18 : (t i j : ℕ) → ((eqb i j || (leb t i || leb t j)) ≡ true) ↔ Fault18 t i j
+exact18 : (t i j : ℕ) → (test18 t i j ≡ true) ↔ Fault18 t i j
 exact18 t i j = either-exact (eqb i j) (leb t i || leb t j) (equal-exact i j) (either-exact (leb t i) (leb t j) (not-below-exact t i) (not-below-exact t j))
 
-exact19 : (sheet : List ℕ) → (ltb (length sheet) 2310 ≡ true) ↔ Fault19 sheet
-exact19 sheet = (ltb-true (length sheet) 2310, lt-ltb (length sheet) 2310)
+exact19 : (sheet : List ℕ) → (test19 sheet ≡ true) ↔ Fault19 sheet
+exact19 sheet = (ltb-true (length sheet) costliestSheetLength, lt-ltb (length sheet) costliestSheetLength)
 
 -- two different tasks of the file, where check 18 passes
 pub two-tasks : (t i j : ℕ) → test18 t i j ≡ false → (i < t) × (j < t) × (j ≢ i)

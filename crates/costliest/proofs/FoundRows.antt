@@ -1,6 +1,6 @@
 -- The rows that are found among the states of two tasks make the pair number: `found-makes`.
 -- The idea: the states in the areas are those of the tasks, and since every block lies on a complete path, each has one of either kind.
-use mathlib.Core.Path.{_≡_, refl, sym, ap, _∙_}
+use mathlib.Core.Path.{_≡_, refl, sym, _∙_}
 use mathlib.Core.Bool.{true, false, false≢true}
 use mathlib.Core.List.{List, [], _∷_, map}
 use Prim.Native.Nat.{ℕ, suc, _+_, _*_, _-_, _≤_, _<_}
@@ -9,7 +9,7 @@ use lib.ListN.{length, getD, take, drop}
 use Rattle.cache.specs.Cache.{Cache, emptyRow, withReferences, firstReferences}
 use Rattle.model.specs.Lists.{mem}
 use Rattle.model.specs.Tasks.{Task, end, references, task, Rules}
-use Rattle.model.specs.Computed.{sameList, sorted, reaching, living}
+use Rattle.model.specs.Computed.{sameList, reaching, living}
 use Rattle.model.proofs.OnPath.{to-and-from}
 use Rattle.model.proofs.Sorted.{reaching-rows, living-rows}
 use Rattle.body.specs.Jumps.{unmaskedSet}

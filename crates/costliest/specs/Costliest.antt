@@ -8,7 +8,7 @@ use lib.Dec.{eqb, leb, ltb}
 use lib.ListN.{length, drop}
 use Rattle.model.specs.Tasks.{SomeUnmasked, task}
 use Rattle.model.specs.States.{Fault11}
-use Rattle.model.specs.Runs.{Preemption, DisturbedRun, U, D}
+use Rattle.model.specs.Runs.{DisturbedRun, OnceBy, U, D}
 use Rattle.project.specs.declared.answers.Check.{Check}
 use Rattle.project.specs.declared.answers.Check.the-variants.{Passed}
 use Rattle.project.specs.declared.answers.Check.the-variants.{Refused as Failed}
@@ -21,7 +21,7 @@ use Rattle.project.specs.Tasks.{tasksOf, fileCacheIn, fileCache, filePair}
 use Rattle.rows.specs.Rows.{Area, areaLength}
 use Rattle.graphs.specs.TaskRows.{test11}
 use Rattle.sheet.specs.Sheet.{Sheet, Fits, runNumbers}
-use Rattle.run_sheet.specs.Joined.{sheetLength}
+use Rattle.run_sheet.specs.Joined.{costliestSheetLength}
 
 -- ---- the checks
 
@@ -41,10 +41,10 @@ Fault18 t i j = (i ≡ j) ⊎ ((i < t → ⊥) ⊎ (j < t → ⊥))
 
 -- check 19: "the lent sheet shorter than 2,310"
 abbrev pub test19 : Sheet → Bool
-test19 sheet = ltb (length sheet) sheetLength
+test19 sheet = ltb (length sheet) costliestSheetLength
 
 abbrev pub Fault19 : Sheet → Type 0
-Fault19 sheet = length sheet < sheetLength
+Fault19 sheet = length sheet < costliestSheetLength
 
 -- "then 11 for the two": the tests of the tasks i and j alone, from task a on
 abbrev pub forTwo : ℕ → ℕ → ℕ → List Bool → List Bool
@@ -67,7 +67,7 @@ twoChecks w s i j = each 11 (twoTests w s i j) (FaultOfTwo s i j) ∷ []
 
 -- check 11 of the two, by whether each has a block with too many states
 abbrev pub twoCheck : ℕ → Bool → ℕ → Bool → Check
-twoCheck i own j by = cond (own && (not by || ltb i j)) (Failed 11 i) (cond by (Failed 11 j) Passed)
+twoCheck i own j other = cond (own && (not other || ltb i j)) (Failed 11 i) (cond other (Failed 11 j) Passed)
 
 -- the checks of the call, in its order
 abbrev pub costliestChecks : ℕ → File → ℕ → ℕ → Area → Area → Sheet → List Entry
@@ -78,10 +78,6 @@ abbrev pub costliestCheck : ℕ → File → ℕ → ℕ → Area → Area → S
 costliestCheck w s i j first second sheet = verdictOf (costliestChecks w s i j first second sheet)
 
 -- ---- the run
-
--- exactly one preemption, by the task j
-abbrev pub OnceBy : ℕ → List Preemption → Type 0
-OnceBy j xs = (x : Preemption) × (xs ≡ x ∷ []) × (x .by ≡ j)
 
 -- "For two tasks, write a run sheet with one preemption whose D - U is their pair number."; "If the preempted task has no unmasked block the
 -- sheet has no preemption."; the run is one that a sheet can hold
@@ -96,7 +92,7 @@ pub record Costliest (s : File) (i j : ℕ) (run : DisturbedRun (tasksOf s)) : T
 pub record WrittenRun (s : File) (i j : ℕ) (old : Sheet) (answer : Writing) (new : Sheet) : Type 0 where
   pub run : DisturbedRun (tasksOf s)
   pub costliest : Costliest s i j run
-  pub few : length (runNumbers (tasksOf s) run) ≤ sheetLength
+  pub few : length (runNumbers (tasksOf s) run) ≤ costliestSheetLength
   pub answered : answer ≡ Written (length (runNumbers (tasksOf s) run))
   pub sheet : new ≡ runNumbers (tasksOf s) run ++ drop (length (runNumbers (tasksOf s) run)) old
 

@@ -67,8 +67,8 @@ pub fn find_trails(
     }
 }
 
-// The block of a task, the reaching and the live row of it in a work area, and the end row of another task that have most in common; `ends` are
-// the first `ended` rows of the other task's end block.
+// The block of a task among the unmasked ones, the reaching and the live row of it in a work area, and the end row of another task that have most in
+// common; which of several is left open. `ends` begins with the `ended` rows of the other task's end block.
 pub fn find_rows(
     w: usize,
     blocks: usize,

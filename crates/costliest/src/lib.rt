@@ -14,7 +14,7 @@ ghost use Rattle.project.specs.Bodies.{accepted};
 ghost use Rattle.project.specs.Checklist.{verdictOf};
 ghost use Rattle.project.specs.Tasks.{tasksOf, fileShape, fileCacheIn};
 ghost use Rattle.task_trails.specs.TaskTrails.{AreaTrails};
-ghost use Rattle.run_sheet.specs.Joined.{sheetLength};
+ghost use Rattle.run_sheet.specs.Joined.{costliestSheetLength};
 ghost use Rattle.costliest.specs.Costliest.{test18, askedChecks, twoCheck, twoChecks, costliestCheck, WrittenRun, CostliestAnswer};
 use area::AREA_LENGTH;
 use body::block_count;
@@ -34,8 +34,9 @@ use reader::read_bodies;
 use reader::task_body;
 use run_sheet::write_sheet;
 
-// The longest sheet that is written: task, path length and 1,535 blocks at most, count, point, task, path length and 768 blocks at most.
-const SHEET_LENGTH: usize = 2310;
+// The fewest numbers of a lent sheet (check 19). The longest sheet that is written has 2,309: task, path length and 1,535 blocks at most, count,
+// point, task, path length and 768 blocks at most.
+pub const COSTLIEST_SHEET_LENGTH: usize = 2310;
 
 // Checks 18 and 19, in a file of this many tasks.
 fn check_asked(i: usize, j: usize, tasks: usize, sheet: &[u16]) -> Check
@@ -44,7 +45,7 @@ fn check_asked(i: usize, j: usize, tasks: usize, sheet: &[u16]) -> Check
     if i == j || tasks <= i || tasks <= j {
         return refused(18);
     }
-    if sheet.len() < SHEET_LENGTH {
+    if sheet.len() < COSTLIEST_SHEET_LENGTH {
         return refused(19);
     }
     Check::Passed
@@ -70,8 +71,8 @@ fn check_two(i: usize, own: bool, j: usize, other: bool) -> Check
     Check::Passed
 }
 
-// The sheet of a run of i that costs the pair number of i preempted by j, whose states are in the two areas, with their trails. Which such run is left
-// open.
+// Writes the sheet of a run of i that costs the pair number of i preempted by j. The areas hold the states of i and of j, with the trails `own` and
+// `other`. Which such run is left open.
 fn write_run(
     file: &[u8],
     w: usize,
@@ -84,7 +85,7 @@ fn write_run(
     sheet: &mut [u16],
 ) -> Writing
     requires { ⌜ (accepted (readingOf (now file)) ≡ true) × (cacheBlocks (now file) ≤ w) × (test18 (taskCount (now file)) i j ≡ false)
-        × (sheetLength ≤ length (now sheet))
+        × (costliestSheetLength ≤ length (now sheet))
         × AreaTrails (fileCacheIn w (now file)) (task (tasksOf (now file)) i) (now first) (own .reached) (own .lived) (own .to) (own .on) false
         × AreaTrails (fileCacheIn w (now file)) (task (tasksOf (now file)) j) (now second) (other .reached) (other .lived) (other .to) (other .on) false ⌝ }
     ensures { λ r. ⌜ WrittenRun (now (file .entry)) i j (now (sheet .entry)) r (now (sheet .exit)) ⌝ }
@@ -140,7 +141,7 @@ fn run_of_two(
     sheet: &mut [u16],
 ) -> Writing
     requires { ⌜ (accepted (readingOf (now file)) ≡ true) × (shape ≡ fileShape (now file)) × Holds w shape × Width w
-        × (test18 (taskCount (now file)) i j ≡ false) × (sheetLength ≤ length (now sheet))
+        × (test18 (taskCount (now file)) i j ≡ false) × (costliestSheetLength ≤ length (now sheet))
         × (length (now first) ≡ areaLength w) × (length (now second) ≡ areaLength w) ⌝ }
     ensures { λ r. ⌜ CostliestAnswer (verdictOf (twoChecks w (now (file .entry)) i j)) (now (file .entry)) i j (now (sheet .entry)) r (now (sheet .exit))
         × (length (now (first .exit)) ≡ areaLength w) × (length (now (second .exit)) ≡ areaLength w) ⌝ }

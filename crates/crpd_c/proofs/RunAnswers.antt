@@ -1,6 +1,5 @@
 -- What `crpd_costliest_run` answers and leaves, from what the call answered.
-use mathlib.Core.Path.{_≡_, refl, sym, subst, _∙_}
-use mathlib.Core.Bool.{Bool}
+use mathlib.Core.Path.{_≡_, refl, subst}
 use mathlib.Core.List.{List}
 use Prim.Native.Nat.{ℕ}
 use lib.ListN.{length}
@@ -25,8 +24,8 @@ module _ (file : List ℕ) (i j : ℕ) (first second sheet answer : List ℕ) wh
         record {
           writing = case;
           answer = subst (λ (w : Writing). CostliestAnswer (costliestCheck 16 file i j first second sheet) file i j sheet w sheet') met said;
-          status-is = refl;
-          numbers-are = e;
+          statusIs = refl;
+          numbersAre = e;
         },
         one,
         two,

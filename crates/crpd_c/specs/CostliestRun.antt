@@ -15,8 +15,8 @@ use Rattle.crpd_c.specs.Write.{statusOfWriting, numbersOfWriting}
 pub record RunAnswered (file : File) (i j : ℕ) (first second : Area) (sheet : Sheet) (status : ℕ) (new : Sheet) (numbers : List ℕ) : Type 0 where
   pub writing : Writing
   pub answer : CostliestAnswer (costliestCheck 16 file i j first second sheet) file i j sheet writing new
-  pub status-is : status ≡ statusOfWriting writing
-  pub numbers-are : numbers ≡ numbersOfWriting writing
+  pub statusIs : status ≡ statusOfWriting writing
+  pub numbersAre : numbers ≡ numbersOfWriting writing
 
 -- the status, the areas, the sheet and the list for the answer afterwards: a list for the answer of another length gives 1, and nothing is written
 abbrev pub RunLeft : Bool → File → ℕ → ℕ → Area → Area → Sheet → List ℕ → ℕ → Area → Area → Sheet → List ℕ → Type 0

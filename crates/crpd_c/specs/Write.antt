@@ -7,7 +7,7 @@ use Rattle.project.specs.declared.answers.Writing.{Writing}
 use Rattle.project.specs.declared.answers.Writing.the-variants.{Written, Refused}
 use Rattle.crpd_c.specs.Status.{places}
 
--- 0 for what is written; a refusal as document 01's number
+-- 0 for what is written; a refusal as the documents' number
 abbrev pub statusOfWriting : Writing → ℕ
 statusOfWriting (Written l) = 0
 statusOfWriting (Refused c a) = c

@@ -43,10 +43,8 @@ module _ (k : Cache) (ts : List Task) (ok : Rules ts) (i j : ℕ) (hi : i < leng
       (d : Complete (task ts j) q) → D k (once path point q c l u d) ≡ U k (once path point q c l u d) + pairNumber k (task ts i) (task ts j) → Reached k ts i j
   reached-by path point q c l u d e = record {
     run = once path point q c l u d;
-    one = record { point = point; by = j; path = q };
     task-i = refl;
-    only = refl;
-    task-j = refl;
+    once = (record { point = point; by = j; path = q }, refl, refl);
     equal = e;
   }
 

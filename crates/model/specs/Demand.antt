@@ -6,7 +6,7 @@ use Prim.Native.Nat.{ℕ, _+_, _≤_, _<_}
 use lib.ListN.{length}
 use Rattle.cache.specs.Cache.{Cache}
 use Rattle.model.specs.Tasks.{Task, SomeUnmasked, task}
-use Rattle.model.specs.Runs.{Preemption, DisturbedRun, U, D}
+use Rattle.model.specs.Runs.{Preemption, DisturbedRun, OnceBy, U, D}
 use Rattle.model.specs.Computed.{pairNumber}
 
 -- the sum of the pair numbers of the task p preempted by each of the preemptions
@@ -21,10 +21,8 @@ Bounded k ts r = (U k r ≤ D k r) × (D k r ≤ U k r + pairSum k ts (r .p) (r 
 -- a run of i with exactly one preemption, by j, that reaches the pair number
 pub record Reached (k : Cache) (ts : List Task) (i j : ℕ) : Type 0 where
   pub run : DisturbedRun ts
-  pub one : Preemption
   pub task-i : run .p ≡ i
-  pub only : run .preemptions ≡ one ∷ []
-  pub task-j : one .by ≡ j
+  pub once : OnceBy j (run .preemptions)
   pub equal : D k run ≡ U k run + pairNumber k (task ts i) (task ts j)
 
 -- "a task with none unmasked has no run that must reach its 0": its numbers are 0, and no run of it has a preemption

@@ -1,4 +1,5 @@
 -- Document 01, "Paths and cache", and document 02, Point 1: disturbed runs, U and D. Definitions only.
+use mathlib.Core.Path.{_≡_}
 use mathlib.Core.Logic.{_≢_}
 use mathlib.Core.Bool.{not, cond}
 use mathlib.Core.List.{List, [], _∷_}
@@ -41,6 +42,10 @@ pub record DisturbedRun (ts : List Task) : Type 0 where
   pub complete : Complete (task ts p) path
   pub each : Each (Preempts ts p path) preemptions
   pub rising : NeverFall preemptions
+
+-- exactly one preemption, by the task j
+abbrev pub OnceBy : ℕ → List Preemption → Type 0
+OnceBy j xs = (x : Preemption) × (xs ≡ x ∷ []) × (x .by ≡ j)
 
 -- "The run keeps one row and one count,"
 pub record RowCount : Type 0 where

@@ -117,6 +117,13 @@ fn print_sheet(sheet: &[u16]) {
     print(b"\n");
 }
 
+// The refusal in place of a run.
+fn print_no_run(check: u8, task: u8) {
+    print(b", ");
+    print_refusal(check, task);
+    print(b"\n");
+}
+
 // The run that costs most in i preempted by j.
 fn print_run(
     file: &[u8],
@@ -134,7 +141,7 @@ fn print_run(
             print_sheet(written);
         }
         Writing::Refused { check, task } => {
-            print_refusal(check, task);
+            print_no_run(check, task);
         }
     }
 }

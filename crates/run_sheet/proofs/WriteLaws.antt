@@ -11,7 +11,7 @@ use lib.Seq.{take-at, drop-append-add, drop-drop, drop-length, drop-cons, set-at
 use borrow.Rule.Slice.PartMut.{putMid, mid-len, post-is}
 use Rattle.sheet.specs.Sheet.{pathNumbers, sheetNumbers}
 use Rattle.trails.specs.Trails.{parentAt, lengthAt, wayBack, wayTo}
-use Rattle.run_sheet.specs.Joined.{pathTo, pathOn, joinedRun}
+use Rattle.run_sheet.specs.Joined.{pathTo, wayOn, joinedRun}
 use Rattle.trails.proofs.WriteLaws.{length-to, length-back}
 
 -- ---- how long the paths are
@@ -19,11 +19,11 @@ use Rattle.trails.proofs.WriteLaws.{length-to, length-back}
 pub to-long : (to : List ℕ) (at : ℕ) → length (pathTo to at) ≡ lengthAt to at
 to-long to at = length-to (lengthAt to at) to at
 
-on-long : (on : List ℕ) (from : ℕ) → length (pathOn on from) ≡ lengthAt on from - 1
+on-long : (on : List ℕ) (from : ℕ) → length (wayOn on from) ≡ lengthAt on from - 1
 on-long on from = length-back (lengthAt on from - 1) on (parentAt on from)
 
-pub own-long : (to : List ℕ) (at : ℕ) (on : List ℕ) (from : ℕ) → length (pathTo to at ++ pathOn on from) ≡ lengthAt to at + (lengthAt on from - 1)
-own-long to at on from = length-append (pathTo to at) (pathOn on from) ∙ ap₂ (λ (m n : ℕ). m + n) (to-long to at) (on-long on from)
+pub own-long : (to : List ℕ) (at : ℕ) (on : List ℕ) (from : ℕ) → length (pathTo to at ++ wayOn on from) ≡ lengthAt to at + (lengthAt on from - 1)
+own-long to at on from = length-append (pathTo to at) (wayOn on from) ∙ ap₂ (λ (m n : ℕ). m + n) (to-long to at) (on-long on from)
 
 -- ---- the blocks of a trail, written into a part that is as long
 
@@ -32,7 +32,7 @@ pub wrote-to : (to : List ℕ) (at : ℕ) (l : List ℕ) (a e : ℕ) {new : List
 wrote-to to at l a e h q s = s ∙ ap (λ (n : ℕ). wayTo n to at) (mid-len a e l h ∙ q)
 
 pub wrote-on : (on : List ℕ) (from : ℕ) (l : List ℕ) (a e : ℕ) {new : List ℕ} → e ≤ length l → e - a ≡ lengthAt on from - 1
-    → new ≡ wayBack (length (take (e - a) (drop a l))) on (parentAt on from) → new ≡ pathOn on from
+    → new ≡ wayBack (length (take (e - a) (drop a l))) on (parentAt on from) → new ≡ wayOn on from
 wrote-on on from l a e h q s = s ∙ ap (λ (n : ℕ). wayBack n on (parentAt on from)) (mid-len a e l h ∙ q)
 
 -- ---- a list that is written up to a place
@@ -103,20 +103,20 @@ answered numbers sheet parts e {now} q h g =
 
 -- the parts that are lent for the task with its path and for the preemption
 own-split : (to : List ℕ) (at : ℕ) (on : List ℕ) (from before after : ℕ) → before ≡ lengthAt to at → after ≡ lengthAt on from → 1 ≤ lengthAt on from
-    → 2 + length (pathTo to at ++ pathOn on from) ≡ 1 + before + after
+    → 2 + length (pathTo to at ++ wayOn on from) ≡ 1 + before + after
 own-split to at on from before after eb ea some = omega (arith, own-long to at on from)
 
 pub own-room : (to : List ℕ) (at : ℕ) (on : List ℕ) (from : ℕ) (sheet : List ℕ) (before after : ℕ) → before ≡ lengthAt to at → after ≡ lengthAt on from → 1 ≤ lengthAt on from
-    → 1 + before + after ≤ length sheet → length (take (1 + before + after - 0) sheet) ≡ 2 + length (pathTo to at ++ pathOn on from)
+    → 1 + before + after ≤ length sheet → length (take (1 + before + after - 0) sheet) ≡ 2 + length (pathTo to at ++ wayOn on from)
 own-room to at on from sheet before after eb ea some h = mid-len 0 (1 + before + after) sheet h ∙ omega (arith, own-split to at on from before after eb ea some)
 
 pub by-room : (by : List ℕ) (end : ℕ) (l : List ℕ) (a ended : ℕ) → ended ≡ lengthAt by end → a + 4 + ended ≤ length l
     → length (take (a + 4 + ended - a) (drop a l)) ≡ 4 + length (pathTo by end)
 by-room by end l a ended e h = mid-len a (a + 4 + ended) l h ∙ omega (arith, to-long by end)
 
-module _ (i j : ℕ) (to : List ℕ) (at : ℕ) (on : List ℕ) (from : ℕ) (by : List ℕ) (end : ℕ) (sheet : List ℕ) (before after : ℕ) {first : List ℕ} (eb : before ≡ lengthAt to at) (ea : after ≡ lengthAt on from) (some : 1 ≤ lengthAt on from) (wrote : first ≡ i ∷ pathNumbers (pathTo to at ++ pathOn on from)) where
+module _ (i j : ℕ) (to : List ℕ) (at : ℕ) (on : List ℕ) (from : ℕ) (by : List ℕ) (end : ℕ) (sheet : List ℕ) (before after : ℕ) {first : List ℕ} (eb : before ≡ lengthAt to at) (ea : after ≡ lengthAt on from) (some : 1 ≤ lengthAt on from) (wrote : first ≡ i ∷ pathNumbers (pathTo to at ++ wayOn on from)) where
   abbrev own : List ℕ
-  own = i ∷ pathNumbers (pathTo to at ++ pathOn on from)
+  own = i ∷ pathNumbers (pathTo to at ++ wayOn on from)
 
   split : length own ≡ 1 + before + after
   split = omega (arith, own-split to at on from before after eb ea some)

@@ -12,21 +12,22 @@ abbrev pub pathTo : List ℕ → ℕ → Path
 pathTo to at = wayTo (lengthAt to at) to at
 
 -- the way on from a place, without the block of the place
-abbrev pub pathOn : List ℕ → ℕ → Path
-pathOn on at = wayBack (lengthAt on at - 1) on (parentAt on at)
+abbrev pub wayOn : List ℕ → ℕ → Path
+wayOn on at = wayBack (lengthAt on at - 1) on (parentAt on at)
 
 -- the run of the task i along the path to the place `at` and the way on from the place `from`, preempted there by the task j along the path to the
 -- place `end`, or not preempted
 abbrev pub joinedRun : Bool → ℕ → ℕ → List ℕ → ℕ → List ℕ → ℕ → List ℕ → ℕ → SheetRun
 joinedRun preempted i j to at on from by end = record {
   p = i;
-  path = pathTo to at ++ pathOn on from;
+  path = pathTo to at ++ wayOn on from;
   preemptions = cond preempted (record { point = lengthAt to at - 1; by = j; path = pathTo by end } ∷ []) [];
 }
 
--- "the lent sheet shorter than 2,310": task, length and 1,535 blocks at most, count, point, task, length and 768 blocks at most
-abbrev pub sheetLength : ℕ
-sheetLength = 2310
+-- document 02, Point 3: "the lent sheet shorter than 2,310"; the longest run has 2,309 numbers: task, length and 1,535 blocks at most, count, point,
+-- task, length and 768 blocks at most
+abbrev pub costliestSheetLength : ℕ
+costliestSheetLength = 2310
 
 -- a place with a trail of 1 to 768 blocks
 pub record HasTrail (trails : List ℕ) (at : ℕ) : Type 0 where

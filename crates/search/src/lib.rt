@@ -47,7 +47,7 @@ fn first_in(set: u32, blocks: usize) -> usize
     0
 }
 
-// The more of `old` and what the useful set of two rows has in common with one of the used sets. A set of no more than `old.number` cache
+// `old`, or the two rows of a useful set and the used set that have most in common, if that is more than `old.number`. A set of no more than `old.number` cache
 // blocks cannot have more. Which is answered of several that have the most is left open, here and below.
 fn over_ends(
     old: Found,

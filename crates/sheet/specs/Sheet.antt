@@ -28,16 +28,16 @@ preemptionNumbers (x ∷ xs) = x .point ∷ x .by ∷ (pathNumbers (x .path) ++ 
 abbrev pub Sheet : Type 0
 Sheet = List ℕ
 
--- "a run sheet of two-byte numbers: task p; path length 1 to 64; the blocks; preemption count 0 to 16; for each .."; Point 3 of document
--- 02 moved the 64, see `longestPath`
+-- "a run sheet of two-byte numbers: task p; path length 1 to 64; the blocks; preemption count 0 to 16; for each .." (see `longestPath`)
 abbrev pub sheetNumbers : SheetRun → Sheet
 sheetNumbers r = r .p ∷ (pathNumbers (r .path) ++ (length (r .preemptions) ∷ preemptionNumbers (r .preemptions)))
 
--- document 02, Point 3: "Sheet paths may now have up to 1,536 blocks, which is enough for 24 blocks of 32 states."
+-- document 01: "path length 1 to 64"; document 02, Point 3: "Sheet paths may now have up to 1,536 blocks, which is enough for 24 blocks of 32
+-- states.", p's and preempting ones
 abbrev pub longestPath : ℕ
 longestPath = 1536
 
--- document 01: "path length 1 to 64"; Point 3 of document 02 moved the 64 to `longestPath`
+-- "path length 1 to 64" (see `longestPath`)
 pub record PathInBounds (path : Path) : Type 0 where
   pub some : 1 ≤ length path
   pub few : length path ≤ longestPath

@@ -1,6 +1,6 @@
 -- Noting the rows that are new, block by block.
 -- The idea: the places of two blocks are 32 apart, so that noting the row of one block leaves the trails of all others as they are.
-use mathlib.Core.Path.{_≡_, refl, sym, ap, _∙_}
+use mathlib.Core.Path.{_≡_, refl, ap, _∙_}
 use mathlib.Core.Bool.{Bool, true, false}
 use mathlib.Core.List.{List}
 use Prim.Native.Nat.{ℕ, suc, _+_, _*_, _≤_, _<_}

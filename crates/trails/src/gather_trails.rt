@@ -9,10 +9,11 @@ use gather::gather::clear;
 use gather::gather::hand_row;
 use gather::gather::next_waiting;
 
-// The places of 32 rows for each of 24 blocks.
-const PLACES: usize = 768;
+// The places of 32 rows for each of 24 blocks. In a list of trails the lengths stand after them.
+pub const PLACES: usize = 768;
 
-// Where a block has a row more than before, its last row came from the place `from`: it gets this place, and a trail one block longer.
+// Where a block has a row more than before, its last row came from the place `from`: it gets this place, and a trail one block longer. What stands at
+// places that have no row is left open.
 fn note(from: usize, before: [usize; 24], counts: &[usize], trails: &mut [u16])
     requires { ⌜ (from < 768) × (length (now counts) ≡ 24) × Places (now trails) × (lengthAt (now trails) from < 65535)
         × ((s : ℕ) → s < 24 → getD before s 0 ≤ 32) × ((s : ℕ) → s < 24 → getD (now counts) s 0 ≤ 32) ⌝ }

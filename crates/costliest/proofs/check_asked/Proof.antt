@@ -14,7 +14,7 @@ use Rattle.project.specs.declared.answers.Check.the-variants.{Refused as Failed
 use Rattle.project.specs.Checklist.{noTask, verdictOf}
 use Rattle.project.proofs.Heads.{or-second}
 use Rattle.costliest.specs.Costliest.{test18, test19, askedChecks}
-use Rattle.run_sheet.specs.Joined.{sheetLength}
+use Rattle.run_sheet.specs.Joined.{costliestSheetLength}
 use Rattle.costliest.proofs.check_asked.Statement.{statement}
 use Rattle.costliest.proofs.check_asked.Tie as tie
 
@@ -58,14 +58,14 @@ returns-2 c =
     let args = passed .before .before .before .before .args in
     c .refused2 .ensures
     ∙ sym (at-19 (args .tasks) (args .i) (args .j) (args .sheet .now) (past-18 (args .tasks) (args .i) (args .j) (args .sheet .now) (passed .before .before .if1 .left) (passed .before .if2 .left) (passed .if3 .left))
-    (lt-ltb (length (args .sheet .now)) sheetLength (c .before .if4 .taken)))
+    (lt-ltb (length (args .sheet .now)) costliestSheetLength (c .before .if4 .taken)))
 
 returns-3 : tie.Need-returns-3
 returns-3 c =
     let passed = c .before in
     let args = passed .before .before .before .before .args in
     sym (at-none (args .tasks) (args .i) (args .j) (args .sheet .now) (past-18 (args .tasks) (args .i) (args .j) (args .sheet .now) (passed .before .before .if1 .left) (passed .before .if2 .left) (passed .if3 .left))
-    (le-ltb (length (args .sheet .now)) sheetLength (c .if4 .left)))
+    (le-ltb (length (args .sheet .now)) costliestSheetLength (c .if4 .left)))
 
 pub check-asked-spec : {M : Type 1} → statement M
 check-asked-spec =

@@ -33,8 +33,8 @@ print-sheet-requires c κs = search needs
 enum-known-check : tie.Need-enum-known-check
 enum-known-check c = search needs
 
-print-refusal-requires : tie.Need-print-refusal-requires
-print-refusal-requires c κs = search needs
+print-no-run-requires : tie.Need-print-no-run-requires
+print-no-run-requires c κs = search needs
 
 same-length : tie.Need-same-length
 same-length c = search needs
@@ -73,7 +73,7 @@ print-run-spec =
     print-lengths-requires
     print-sheet-requires
     enum-known-check
-    print-refusal-requires
+    print-no-run-requires
     same-length
     same-length-2
     same-length-3

@@ -7,7 +7,7 @@ use lib.ListN.{length, set, length-set}
 use borrow.Rule.Slice.PartMut.{putMid}
 use borrow.Author.Needs.{needs}
 use Rattle.trails.specs.Trails.{lengthAt}
-use Rattle.run_sheet.specs.Joined.{pathTo, pathOn}
+use Rattle.run_sheet.specs.Joined.{pathTo, wayOn}
 use Rattle.run_sheet.proofs.WriteLaws.{to-long, own-long, wrote-to, wrote-on, own-written}
 use Rattle.run_sheet.proofs.write_own.Statement.{statement}
 use Rattle.run_sheet.proofs.write_own.Tie as tie
@@ -106,7 +106,7 @@ returns c =
     let out = args .out .now in
     let n = counted .count .result in
     let l = putMid 2 (2 + n - 2) (two counted) (c .before .before .before .before .before .before .write-to .last .1 .1 .0) in
-    own-written out (pathTo (args .to .now) (args .at)) (pathOn (args .on .now) (args .from)) (args .i) n
+    own-written out (pathTo (args .to .now) (args .at)) (wayOn (args .on .now) (args .from)) (args .i) n
     (to-long (args .to .now) (args .at) ∙ sym (counted .count .ensures .0)) (start .pre .2) (first (c .before .before .before .before))
     (wrote-on (args .on .now) (args .from) l (2 + n) (length out) (still (c .before .before .before .before)) (omega (arith, long counted)) (c .before .before .write-on .ensures))
 
