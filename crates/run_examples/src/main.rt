@@ -46,9 +46,10 @@ fn print_asked(name: &[u8], i: usize, j: usize) {
     print(b": ");
 }
 
-// The pair number of i preempted by j, if the table can be filled.
+// The pair number of i preempted by j, if the table can be filled. What the lists hold afterwards is left open.
 fn print_pair_number(file: &[u8], i: usize, j: usize, area: &mut [u16], numbers: &mut [u16])
     requires { ⌜ (i < 8) × (j < 8) × (length (now numbers) ≡ 64) ⌝ }
+    ensures { λ _. ⌜ length (now (area .exit)) ≡ length (now (area .entry)) ⌝ }
 {
     match table(file, area, numbers) {
         Filling::Filled => {
@@ -124,7 +125,7 @@ fn print_no_run(check: u8, task: u8) {
     print(b"\n");
 }
 
-// The run that costs most in i preempted by j.
+// The run that costs most in i preempted by j. What the lists hold afterwards is left open.
 fn print_run(
     file: &[u8],
     i: usize,
@@ -132,7 +133,9 @@ fn print_run(
     first: &mut [u16],
     second: &mut [u16],
     sheet: &mut [u16],
-) {
+)
+    ensures { λ _. ⌜ (length (now (first .exit)) ≡ length (now (first .entry))) × (length (now (second .exit)) ≡ length (now (second .entry))) ⌝ }
+{
     match costliest_run(file, i, j, first, second, sheet) {
         Writing::Written { length } => {
             let written = &sheet[0..length];
@@ -173,7 +176,7 @@ fn print_kept(numbers: &[u16]) {
 }
 
 // What the call answers with these areas and this sheet, filled with 7, and how many numbers of the sheet it keeps: all if it refuses, and else those
-// after the length.
+// after the length. What the lists hold afterwards is left open.
 fn print_answer(
     file: &[u8],
     i: usize,
@@ -181,7 +184,9 @@ fn print_answer(
     first: &mut [u16],
     second: &mut [u16],
     sheet: &mut [u16],
-) {
+)
+    ensures { λ _. ⌜ (length (now (first .exit)) ≡ length (now (first .entry))) × (length (now (second .exit)) ≡ length (now (second .entry))) ⌝ }
+{
     match costliest_run(file, i, j, first, second, sheet) {
         Writing::Written { length } => {
             print_named(b"sheet of ", length as u64);
