@@ -149,7 +149,18 @@ pub fn largest() -> Vec<u8> {
     file(16, &bodies)
 }
 
-/// The same with the end block of task 0 masked.
+/// Eight tasks of 24 blocks in a loop, 16 cache blocks, 16 references a block: two different ones to each of eight cache blocks,
+/// the last of which the next block reads first.
+pub fn long_traces() -> Vec<u8> {
+    let block = |j: usize, b: usize| {
+        let successors = if b == 23 { vec![0] } else { vec![b as u8 + 1] };
+        (successors, (0..16).map(|i| memory(16, j, b + i / 8, i % 8)).collect())
+    };
+    let bodies: Vec<Vec<u8>> = (0..8).map(|j| body(&(0..24).map(|b| block(j, b)).collect::<Vec<Block>>())).collect();
+    file(16, &bodies)
+}
+
+/// The largest file with the end block of task 0 masked.
 fn largest_masked() -> Vec<u8> {
     let bodies: Vec<Vec<u8>> = (0..8).map(|j| masked_body(&forks(16, j, 5, 6), |b| j == 0 && b == 23)).collect();
     file(16, &bodies)

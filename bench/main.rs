@@ -80,6 +80,7 @@ fn file_classes() -> Vec<(String, Vec<u8>)> {
         ("masked".to_string(), files::masked()),
         ("largest".to_string(), files::largest()),
         ("varied".to_string(), files::varied()),
+        ("long traces".to_string(), files::long_traces()),
         ("refused by 11".to_string(), files::refused_states()),
     ];
     classes.extend(refused_by(&FILE_CHECKS).zip(files::refused_early()));
@@ -278,7 +279,7 @@ fn accepted_as_meant() {
         numbers
     };
     assert_ne!(table(&files::masked()), table(&files::typical()));
-    for file in [files::tiny(), files::typical(), files::masked(), files::largest(), files::varied()] {
+    for file in [files::tiny(), files::typical(), files::masked(), files::largest(), files::varied(), files::long_traces()] {
         assert_eq!(plain_extra(&asked(file.clone())), Ok(table(&file)[files::last_task(&file)] as u32));
     }
 }

@@ -3,6 +3,8 @@ pub mod Rows
 pub mod Cells
 pub mod NumberLaws
 pub mod Firsts
+pub mod SoFarLaws
+pub mod Neighbours
 pub mod Bits
 pub mod Masks
 pub mod Members

@@ -8,7 +8,7 @@ use native.Mathlib.Omega.{arith}
 use lib.Dec.{eqb, ltb}
 use lib.Pow.{pow-mono}
 use lib.Bits.{bitAnd, bitOr, bitXor, and-step, and-mask, and-comm, and-shifted, and-shr, and-mod, or-shr, or-mod, xor-shr, xor-mod, and-zero-l, shifted-half, shifted-even}
-use lib.Count.{trailingZeros, under}
+use lib.Count.{trailingZeros}
 use borrow.Author.Tests.{eq-eqb, ne-eqb, eqb-true, eqb-false, ltb-true, ltb-false}
 use Rattle.cache.specs.Sets.{inSet}
 use Rattle.cache.proofs.Masks.{one-at}

@@ -1,10 +1,12 @@
 // References in a list of bytes, and for each cache block the first and the last of them.
 ghost use mathlib.Core.Path.{_≡_};
-ghost use Prim.Native.Nat.{_+_, _<_};
+ghost use mathlib.Core.List.{[]};
+ghost use Prim.Native.Nat.{ℕ, _+_, _<_};
 ghost use lib.ListN.{length};
 ghost use Rattle.cache.specs.References.{Real, All, numberAt, numbers};
-ghost use Rattle.cache.specs.Cache.{emptyRow, withReference, withReferences, firstReferences};
+ghost use Rattle.cache.specs.Cache.{wide, emptyRow, withReference, withReferences, firstReferences};
 ghost use Rattle.cache.specs.Firsts.{withFirst};
+ghost use Rattle.cache.specs.SoFar.{RowsSoFar, OneMore};
 ghost use Rattle.cache.specs.Shape.{shaped, Holds};
 use crate::blocks::CacheShape;
 use crate::blocks::MemoryBlock;
@@ -26,31 +28,51 @@ pub struct BlockReferences {
 }
 
 impl BlockReferences {
-    // The rows after one more reference.
-    pub fn with_reference(self, m: MemoryBlock, shape: CacheShape) -> BlockReferences
-        requires { ⌜ Holds 32 shape ⌝ }
-        ensures { λ r. ⌜ (r .first .cells ≡ withFirst (shaped 32 shape) (self .first .cells) (m .0))
-            × (r .last .cells ≡ withReference (shaped 32 shape) (self .last .cells) (m .0)) ⌝ }
+    // Both rows before the first reference: those of no reference, for every number of cache blocks.
+    fn none() -> BlockReferences
+        ensures { λ r. ⌜ ((n : ℕ) → RowsSoFar (wide 32 n) [] (r .first .cells) (r .last .cells)) ⌝ }
     {
-        let first = Row::with_first(self.first, m, shape);
-        let last = Row::with_reference(self.last, m, shape);
-        BlockReferences { first, last }
+        BlockReferences {
+            first: Row::EMPTY,
+            last: Row::EMPTY,
+        }
     }
 
-    // Both rows in one pass over the references.
+    // One more reference, on the cells of both rows: its cache block is found once, one cell is tested and two are stored. If the rows
+    // were those of some references, they are now those of the same references and m after them.
+    fn with_reference(
+        first: &mut [u16; 32],
+        last: &mut [u16; 32],
+        m: MemoryBlock,
+        shape: CacheShape,
+    )
+        requires { ⌜ Holds 32 shape × (length (now first) ≡ 32) × (length (now last) ≡ 32) ⌝ }
+        ensures { λ _. ⌜ (now (first .exit) ≡ withFirst (shaped 32 shape) (now (first .entry)) (m .0))
+            × (now (last .exit) ≡ withReference (shaped 32 shape) (now (last .entry)) (m .0))
+            × OneMore (shaped 32 shape) (m .0) (now (first .entry)) (now (last .entry)) (now (first .exit)) (now (last .exit)) ⌝ }
+    {
+        let c = m.cache_block(shape);
+        let kept = Row::first_of(first, c, m);
+        Row::with_reference(first, c, kept);
+        Row::with_reference(last, c, m);
+    }
+
+    // Both rows in one pass over the references: after every one read, both are those of the references so far.
     pub fn gather(references: &[u8], shape: CacheShape) -> BlockReferences
         requires { ⌜ Holds 32 shape × All Real (numbers (now references)) ⌝ }
         ensures { λ r. ⌜ (r .first .cells ≡ firstReferences (shaped 32 shape) (numbers (now (references .entry))))
             × (r .last .cells ≡ withReferences (shaped 32 shape) (emptyRow (shaped 32 shape)) (numbers (now (references .entry)))) ⌝ }
     {
-        let mut rows = BlockReferences {
-            first: Row::EMPTY,
-            last: Row::EMPTY,
-        };
+        let none = BlockReferences::none();
+        let mut first = none.first.cells();
+        let mut last = none.last.cells();
         for i in 0..references.len() / 2 {
             let m = MemoryBlock::new(number_at(references, 2 * i));
-            rows = rows.with_reference(m, shape);
+            BlockReferences::with_reference(&mut first, &mut last, m, shape);
         }
-        rows
+        BlockReferences {
+            first: Row::new(first),
+            last: Row::new(last),
+        }
     }
 }

@@ -1,9 +1,10 @@
 // A row: for each cache block the memory block that it holds, or nothing.
 ghost use mathlib.Core.Path.{_≡_};
-ghost use Rattle.cache.specs.Cache.{held, withReference};
-ghost use Rattle.cache.specs.Firsts.{withFirst};
-ghost use Rattle.cache.specs.Shape.{shaped, Holds};
-use crate::blocks::CacheShape;
+ghost use Prim.Native.Nat.{_<_};
+ghost use lib.ListN.{length, set};
+ghost use Rattle.cache.specs.Cache.{held};
+ghost use Rattle.cache.specs.Firsts.{firstOf};
+use crate::blocks::CacheBlock;
 use crate::blocks::MemoryBlock;
 
 pub struct Row {
@@ -23,34 +24,32 @@ impl Row {
         self.cells
     }
 
-    // What the cache block of m holds.
-    pub fn held(row: Row, m: MemoryBlock, shape: CacheShape) -> u16
-        requires { ⌜ Holds 32 shape ⌝ }
-        ensures { λ r. ⌜ r ≡ held (row .cells) (shaped 32 shape .place (m .0)) ⌝ }
+    pub fn new(cells: [u16; 32]) -> Row
+        ensures { λ r. ⌜ r .cells ≡ cells ⌝ }
     {
-        row.cells[m.cache_block(shape).index()]
+        Row { cells }
     }
 
-    pub fn with_reference(row: Row, m: MemoryBlock, shape: CacheShape) -> Row
-        requires { ⌜ Holds 32 shape ⌝ }
-        ensures { λ r. ⌜ r .cells ≡ withReference (shaped 32 shape) (row .cells) (m .0) ⌝ }
+    // A row's lent cells, with m at the cache block c. That m goes there is up to the caller.
+    pub fn with_reference(cells: &mut [u16; 32], c: CacheBlock, m: MemoryBlock)
+        requires { ⌜ (c .0 < 32) × (length (now cells) ≡ 32) ⌝ }
+        ensures { λ _. ⌜ now (cells .exit) ≡ set (now (cells .entry)) (c .0) (m .0) ⌝ }
     {
-        let mut next = row;
-        let c = m.cache_block(shape).index();
+        let at = c.index();
         let v = m.number();
-        next.cells[c] = v;
-        next
+        cells[at] = v;
     }
 
-    // The row with m at its cache block, if that holds nothing.
-    pub fn with_first(row: Row, m: MemoryBlock, shape: CacheShape) -> Row
-        requires { ⌜ Holds 32 shape ⌝ }
-        ensures { λ r. ⌜ r .cells ≡ withFirst (shaped 32 shape) (row .cells) (m .0) ⌝ }
+    // What the cache block c of a row of first references holds after a reference to m: what it held, or m where that was nothing.
+    pub fn first_of(cells: &[u16; 32], c: CacheBlock, m: MemoryBlock) -> MemoryBlock
+        requires { ⌜ (c .0 < 32) × (length (now cells) ≡ 32) ⌝ }
+        ensures { λ r. ⌜ r .0 ≡ firstOf (held (now (cells .entry)) (c .0)) (m .0) ⌝ }
     {
-        if Row::held(row, m, shape) == Row::NOTHING {
-            Row::with_reference(row, m, shape)
+        let old = cells[c.index()];
+        if old == Row::NOTHING {
+            m
         } else {
-            row
+            MemoryBlock::new(old)
         }
     }
 }

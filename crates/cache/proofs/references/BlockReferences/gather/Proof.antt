@@ -1,31 +1,40 @@
--- `BlockReferences::gather` meets its contract. The loop's invariant: after every reference read, both rows are those of the references so far,
--- with nothing where there is none. At the end the references so far are all. Assumes nothing.
-use mathlib.Core.Path.{_≡_, ap, _∙_}
+-- `BlockReferences::gather` meets its contract. The loop's invariant is `RowsSoFar`, of the references read. Assumes nothing.
+use mathlib.Core.Path.{ap, _∙_}
 use Prim.Native.Nat.{_/_, _-_, _≤_}
 use native.Mathlib.Omega.{arith}
 use lib.ListN.{length, take}
 use lib.Seq.{take-all}
 use borrow.Author.Needs.{needs}
-use Rattle.cache.specs.References.{nothing, numbers}
+use Rattle.cache.specs.References.{numbers}
 use Rattle.cache.specs.Cache.{emptyRow, withReferences, firstReferences}
 use Rattle.cache.specs.Shape.{shaped}
+use Rattle.cache.specs.SoFar.{RowsSoFar}
 use Rattle.cache.proofs.NumberLaws.{length-numbers}
-use Rattle.cache.proofs.Firsts.{first-turn, last-turn}
+use Rattle.cache.proofs.SoFarLaws.{length-so-far, next-so-far}
 use Rattle.cache.proofs.references.BlockReferences.gather.Statement.{statement}
 use Rattle.cache.proofs.references.BlockReferences.gather.Tie as tie
 
 abbrev Inv-loop : tie.InvT-loop
-Inv-loop references shape rows₀ i₀ i-end rows i =
-    (i ≤ length references / 2)
-    × (rows .first .cells ≡ firstReferences (shaped 32 shape) (take i (numbers references)))
-    × (rows .last .cells ≡ withReferences (shaped 32 shape) (emptyRow (shaped 32 shape)) (take i (numbers references)))
+Inv-loop references shape first₀ last₀ i₀ i-end first last i =
+    RowsSoFar (shaped 32 shape) (take i (numbers references)) first last × (i ≤ length references / 2)
 
 abbrev μ-loop : tie.MeasureT-loop
-μ-loop references shape rows₀ i₀ i-end rows i = length references / 2 - i
+μ-loop references shape first₀ last₀ i₀ i-end first last i = length references / 2 - i
+
+none-requires : tie.Need-none-requires Inv-loop μ-loop
+none-requires c κs = search needs
+
+cells-requires : tie.Need-cells-requires Inv-loop μ-loop
+cells-requires c κs = search needs
+
+cells-requires-2 : tie.Need-cells-requires-2 Inv-loop μ-loop
+cells-requires-2 c κs = search needs
 
 loop-holds : tie.Need-loop-holds Inv-loop μ-loop
-unfolding nothing
-loop-holds c = search needs
+loop-holds c =
+    let start = c .before .before .before .before in
+    let none = c .before .before .none .ensures (start .args .shape .blocks) in
+    (record { firsts = c .before .cells .ensures ∙ none .firsts; lasts = c .cells2 .ensures ∙ none .lasts }, search needs)
 
 mul-number-at : tie.Need-mul-number-at Inv-loop μ-loop
 mul-number-at c = search needs
@@ -37,7 +46,10 @@ new-requires : tie.Need-new-requires Inv-loop μ-loop
 new-requires c κs = search needs
 
 with-reference-requires : tie.Need-with-reference-requires Inv-loop μ-loop
-with-reference-requires c κs = search needs
+with-reference-requires c κs =
+    let start = c .before .before .before .before .before .before .before .before .before .before in
+    let lengths = length-so-far (shaped 32 (start .args .shape)) (c .before .before .before .before .before .loop .inv .0) in
+    (start .pre .0, lengths .0, lengths .1)
 
 add-i : tie.Need-add-i Inv-loop μ-loop
 add-i c = search needs
@@ -47,24 +59,26 @@ loop-less c = search needs
 
 loop-again : tie.Need-loop-again Inv-loop μ-loop
 loop-again c =
-    let at = c .before .before .before .before .loop in
-    let start = c .before .before .before .before .before .before in
+    let at = c .before .before .before .before .before .before .loop in
+    let start = c .before .before .before .before .before .before .before .before .before .before .before in
+    let m = c .before .before .before .new .ensures ∙ c .before .before .before .before .number-at .ensures in
     let k = shaped 32 (start .args .shape) in
-    let s = start .args .references .now in
-    let m = c .before .new .ensures ∙ c .before .before .number-at .ensures in (
-      omega arith,
-      first-turn k s (at .i) (omega arith) (start .pre .1) m (at .inv .1) (c .with-reference .ensures .0),
-      last-turn k s (at .i) (omega arith) m (at .inv .2) (c .with-reference .ensures .1),
-    )
+    (next-so-far k (start .args .references .now) (at .i) (omega arith) (start .pre .1) m (c .with-reference .ensures .2) (at .inv .0), omega arith)
+
+new-requires-2 : tie.Need-new-requires-2 Inv-loop μ-loop
+new-requires-2 c κs = search needs
+
+new-requires-3 : tie.Need-new-requires-3 Inv-loop μ-loop
+new-requires-3 c κs = search needs
 
 returns : tie.Need-returns Inv-loop μ-loop
 returns c =
-    let at = c .before .loop in
-    let args = c .before .before .before .args in
+    let at = c .before .before .before .loop in
+    let args = c .before .before .before .before .before .before .before .before .args in
     let k = shaped 32 (args .shape) in
     let s = args .references .now in
     let all = take-all (at .i) (numbers s) (rw length-numbers (omega arith)) in
-    (at .inv .1 ∙ ap (firstReferences k) all, at .inv .2 ∙ ap (withReferences k (emptyRow k)) all)
+    (c .before .new2 .ensures ∙ at .inv .0 .firsts ∙ ap (firstReferences k) all, c .new3 .ensures ∙ at .inv .0 .lasts ∙ ap (withReferences k (emptyRow k)) all)
 
 pub gather-spec : {M : Type 1} → statement M
 gather-spec =
@@ -72,6 +86,9 @@ gather-spec =
     (tie.spec
     Inv-loop
     μ-loop
+    none-requires
+    cells-requires
+    cells-requires-2
     loop-holds
     mul-number-at
     number-at-requires
@@ -80,4 +97,6 @@ gather-spec =
     add-i
     loop-less
     loop-again
+    new-requires-2
+    new-requires-3
     returns)
