@@ -64,15 +64,12 @@ impl BlockReferences {
             × (r .last .cells ≡ withReferences (shaped 32 shape) (emptyRow (shaped 32 shape)) (numbers (now (references .entry)))) ⌝ }
     {
         let none = BlockReferences::none();
-        let mut first = none.first.cells();
-        let mut last = none.last.cells();
+        let mut first = none.first;
+        let mut last = none.last;
         for i in 0..references.len() / 2 {
             let m = MemoryBlock::new(number_at(references, 2 * i));
-            BlockReferences::with_reference(&mut first, &mut last, m, shape);
+            BlockReferences::with_reference(&mut first.cells, &mut last.cells, m, shape);
         }
-        BlockReferences {
-            first: Row::new(first),
-            last: Row::new(last),
-        }
+        BlockReferences { first, last }
     }
 }

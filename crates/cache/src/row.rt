@@ -8,7 +8,7 @@ use crate::blocks::CacheBlock;
 use crate::blocks::MemoryBlock;
 
 pub struct Row {
-    cells: [u16; 32],
+    pub cells: [u16; 32],
 }
 
 impl Row {
@@ -22,12 +22,6 @@ impl Row {
         ensures { λ r. ⌜ r ≡ self .cells ⌝ }
     {
         self.cells
-    }
-
-    pub fn new(cells: [u16; 32]) -> Row
-        ensures { λ r. ⌜ r .cells ≡ cells ⌝ }
-    {
-        Row { cells }
     }
 
     // A row's lent cells, with m at the cache block c. That m goes there is up to the caller.

@@ -16,7 +16,7 @@ use Rattle.cache.proofs.references.BlockReferences.gather.Tie as tie
 
 abbrev Inv-loop : tie.InvT-loop
 Inv-loop references shape first₀ last₀ i₀ i-end first last i =
-    RowsSoFar (shaped 32 shape) (take i (numbers references)) first last × (i ≤ length references / 2)
+    RowsSoFar (shaped 32 shape) (take i (numbers references)) (first .cells) (last .cells) × (i ≤ length references / 2)
 
 abbrev μ-loop : tie.MeasureT-loop
 μ-loop references shape first₀ last₀ i₀ i-end first last i = length references / 2 - i
@@ -24,17 +24,8 @@ abbrev μ-loop : tie.MeasureT-loop
 none-requires : tie.Need-none-requires Inv-loop μ-loop
 none-requires c κs = search needs
 
-cells-requires : tie.Need-cells-requires Inv-loop μ-loop
-cells-requires c κs = search needs
-
-cells-requires-2 : tie.Need-cells-requires-2 Inv-loop μ-loop
-cells-requires-2 c κs = search needs
-
 loop-holds : tie.Need-loop-holds Inv-loop μ-loop
-loop-holds c =
-    let start = c .before .before .before .before in
-    let none = c .before .before .none .ensures (start .args .shape .blocks) in
-    (record { firsts = c .before .cells .ensures ∙ none .firsts; lasts = c .cells2 .ensures ∙ none .lasts }, search needs)
+loop-holds c = (c .before .before .none .ensures (c .before .before .before .before .args .shape .blocks), search needs)
 
 mul-number-at : tie.Need-mul-number-at Inv-loop μ-loop
 mul-number-at c = search needs
@@ -65,20 +56,14 @@ loop-again c =
     let k = shaped 32 (start .args .shape) in
     (next-so-far k (start .args .references .now) (at .i) (omega arith) (start .pre .1) m (c .with-reference .ensures .2) (at .inv .0), omega arith)
 
-new-requires-2 : tie.Need-new-requires-2 Inv-loop μ-loop
-new-requires-2 c κs = search needs
-
-new-requires-3 : tie.Need-new-requires-3 Inv-loop μ-loop
-new-requires-3 c κs = search needs
-
 returns : tie.Need-returns Inv-loop μ-loop
 returns c =
-    let at = c .before .before .before .loop in
-    let args = c .before .before .before .before .before .before .before .before .args in
+    let at = c .before .loop in
+    let args = c .before .before .before .before .before .before .args in
     let k = shaped 32 (args .shape) in
     let s = args .references .now in
     let all = take-all (at .i) (numbers s) (rw length-numbers (omega arith)) in
-    (c .before .new2 .ensures ∙ at .inv .0 .firsts ∙ ap (firstReferences k) all, c .new3 .ensures ∙ at .inv .0 .lasts ∙ ap (withReferences k (emptyRow k)) all)
+    (at .inv .0 .firsts ∙ ap (firstReferences k) all, at .inv .0 .lasts ∙ ap (withReferences k (emptyRow k)) all)
 
 pub gather-spec : {M : Type 1} → statement M
 gather-spec =
@@ -87,8 +72,6 @@ gather-spec =
     Inv-loop
     μ-loop
     none-requires
-    cells-requires
-    cells-requires-2
     loop-holds
     mul-number-at
     number-at-requires
@@ -97,6 +80,4 @@ gather-spec =
     add-i
     loop-less
     loop-again
-    new-requires-2
-    new-requires-3
     returns)
