@@ -36,7 +36,7 @@ pub fn file(n: u8, bodies: &[Vec<u8>]) -> Vec<u8> {
     bytes
 }
 
-/// Memory block number x of cache block c, for task j: no two tasks share one.
+/// Memory block number x of cache block c, for task j: no two tasks share one, but for a library that they link.
 fn memory(n: usize, j: usize, x: usize, c: usize) -> u16 {
     (n * (64 * j + x) + c) as u16
 }
@@ -63,6 +63,31 @@ fn forks(n: usize, j: usize, forks: usize, chain: usize) -> Vec<Block> {
     blocks
 }
 
+/// The same blocks where the last `shared` of n cache blocks have one memory block each of a library, common to all tasks.
+fn linked(n: usize, shared: usize, mut blocks: Vec<Block>) -> Vec<Block> {
+    for m in blocks.iter_mut().flat_map(|(_, references)| references) {
+        let c = *m as usize % n;
+        if n - shared <= c {
+            *m = (600 * n + c) as u16;
+        }
+    }
+    blocks
+}
+
+/// A loop over `loads` optional loads of two cache blocks each, and an end without references: up to 2^loads rows to end with.
+fn optional_loads(n: usize, j: usize, loads: usize) -> Vec<Block> {
+    let mut blocks = vec![(vec![1], vec![])];
+    for k in 0..loads {
+        let head = 1 + 2 * k as u8;
+        blocks.push((vec![head + 1, head + 2], vec![]));
+        blocks.push((vec![head + 2], (0..2).map(|x| memory(n, j, 0, (3 * k + j + x) % n)).collect()));
+    }
+    let end = blocks.len() as u8 + 1;
+    blocks.push((vec![1, end], vec![]));
+    blocks.push((vec![], vec![]));
+    blocks
+}
+
 /// Two tasks of one and of two blocks.
 pub fn tiny() -> Vec<u8> {
     file(2, &[body(&[(vec![0], vec![0, 1])]), body(&[(vec![1], vec![2]), (vec![], vec![5])])])
@@ -71,6 +96,12 @@ pub fn tiny() -> Vec<u8> {
 /// Four tasks of about a dozen blocks with two or three forks.
 pub fn typical() -> Vec<u8> {
     let bodies: Vec<Vec<u8>> = (0..4).map(|j| body(&forks(8, j, 2 + j % 2, 2))).collect();
+    file(8, &bodies)
+}
+
+/// The typical file with a library in three of the eight cache blocks.
+pub fn typical_library() -> Vec<u8> {
+    let bodies: Vec<Vec<u8>> = (0..4).map(|j| body(&linked(8, 3, forks(8, j, 2 + j % 2, 2)))).collect();
     file(8, &bodies)
 }
 
@@ -149,6 +180,18 @@ pub fn largest() -> Vec<u8> {
     file(16, &bodies)
 }
 
+/// The largest file with a library in nine of the 16 cache blocks.
+pub fn largest_library() -> Vec<u8> {
+    let bodies: Vec<Vec<u8>> = (0..8).map(|j| body(&linked(16, 9, forks(16, j, 5, 6)))).collect();
+    file(16, &bodies)
+}
+
+/// Eight tasks with 32 rows to end with each, 16 cache blocks, and a library in eight of them.
+pub fn many_ends() -> Vec<u8> {
+    let bodies: Vec<Vec<u8>> = (0..8).map(|j| body(&linked(16, 8, optional_loads(16, j, 5)))).collect();
+    file(16, &bodies)
+}
+
 /// Eight tasks of 24 blocks in a loop, 16 cache blocks, 16 references a block: two different ones to each of eight cache blocks,
 /// the last of which the next block reads first.
 pub fn long_traces() -> Vec<u8> {
@@ -166,7 +209,7 @@ fn largest_masked() -> Vec<u8> {
     file(16, &bodies)
 }
 
-/// Files of the typical kind, one for each of the checks 2 to 10, which they fail.
+/// Files of the typical kind, one for each of the checks 2 to 9, which they fail.
 pub fn refused_early() -> Vec<Vec<u8>> {
     let whole = typical();
     let changed = |at: usize, byte: u8| {
@@ -176,7 +219,6 @@ pub fn refused_early() -> Vec<Vec<u8>> {
     };
     let body = 8 + 4 * whole[6] as usize;
     let apart = file(8, &[body_of_two()]);
-    let shared = file(8, &[self::body(&[(vec![], vec![1])]), self::body(&[(vec![], vec![1])])]);
     vec![
         whole[..7].to_vec(),
         changed(0, b'D'),
@@ -186,7 +228,6 @@ pub fn refused_early() -> Vec<Vec<u8>> {
         changed(8, 0),
         changed(body + 1, 1),
         apart,
-        shared,
     ]
 }
 
@@ -295,7 +336,7 @@ pub fn parts(file: &[u8]) -> Parts {
     Parts { n: file[5], bodies: file[8 + 4 * t..].to_vec(), lengths: (0..t).map(length).collect(), room: file.len() }
 }
 
-/// Parts of the typical kind, one for each of the checks 5 to 10 and 14, which they fail.
+/// Parts of the typical kind, one for each of the checks 5 to 9 and 14, which they fail.
 pub fn refused_parts() -> Vec<Parts> {
     let whole = || parts(&typical());
     let files = refused_early();
@@ -310,7 +351,6 @@ pub fn refused_parts() -> Vec<Parts> {
         missing,
         parts(&files[6]),
         parts(&files[7]),
-        parts(&files[8]),
         narrow,
     ]
 }

@@ -10,9 +10,9 @@ pub fn states(file: &[u8], task: usize, area: &mut [u16]) -> Result<(), plain::R
     crpd::states(file, task, area).map_err(Refusal::numbers)
 }
 
-pub fn replay(file: &[u8], sheet: &[u16]) -> Result<(u32, u32), plain::Refusal> {
-    let Misses { undisturbed, disturbed } = crpd::replay(file, sheet).map_err(Refusal::numbers)?;
-    Ok((undisturbed, disturbed))
+pub fn replay(file: &[u8], sheet: &[u16]) -> Result<(u32, u32, u32), plain::Refusal> {
+    let Misses { undisturbed, disturbed, lost } = crpd::replay(file, sheet).map_err(Refusal::numbers)?;
+    Ok((undisturbed, disturbed, lost))
 }
 
 pub fn write(n: u8, bodies: &[u8], lengths: &[usize], out: &mut [u8]) -> Result<usize, plain::Refusal> {

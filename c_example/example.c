@@ -16,7 +16,6 @@ static const char *meaning(uint8_t check)
     case CRPD_CHECK_CONTENTS: return "an offset or a length in the contents is wrong";
     case CRPD_CHECK_LAYOUT: return "a body breaks its layout";
     case CRPD_CHECK_COMPLETE_PATHS: return "a block is on no complete path";
-    case CRPD_CHECK_SHARED: return "a memory block is shared with an earlier task";
     case CRPD_CHECK_STATES: return "a block has 33 or more reaching or live states";
     case CRPD_CHECK_MICROSECONDS:
         return "the number is over 16, the penalty outside 1 to 1,000 or the clock outside 1 to 1,000,000";

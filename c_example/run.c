@@ -1,6 +1,6 @@
 /*
  * Prints the costliest run of two tasks of a project file: along which blocks the first runs, where the second preempts
- * it and along which blocks that runs, and how many misses of the first the preemption costs, which is the pair number.
+ * it and along which blocks that runs, and how many hits of the first become misses, which is the pair number.
  * Ends with 0 after a run, 1 after a refusal, which is also told in words on standard error, and 2 if the file cannot
  * be read or the arguments are not a file and two numbers of 32 bits.
  */
@@ -58,7 +58,7 @@ static void print_run(const struct run *run)
         print_preempted(i, path, path_length, preemptions + 1);
     }
     printf("misses of task %d: %" PRIu32 " without a preemption, %" PRIu32 " in this run\n", i, answer[1], answer[2]);
-    printf("pair number: %" PRIu32 " - %" PRIu32 " = %" PRIu32 "\n", answer[2], answer[1], answer[2] - answer[1]);
+    printf("pair number: %" PRIu32 ", the hits that became misses\n", answer[3]);
 }
 
 int main(int count, char **arguments)

@@ -1,5 +1,6 @@
 //! Files and run sheets from a seed: valid ones of all shapes, and ones damaged in each check's way.
 use crate::independent::{complete, pack, Block, Task};
+use std::collections::BTreeSet;
 
 /// xorshift, so that a seed gives the same cases everywhere.
 pub struct Random(u64);
@@ -51,6 +52,13 @@ impl Made {
 
     pub fn file(&self) -> Vec<u8> {
         packed(self.n, &self.bodies())
+    }
+
+    /// Two tasks share a memory block.
+    pub fn shares(&self) -> bool {
+        let memory_blocks = |task: &Task| task.iter().flat_map(|block| block.references.clone()).collect::<BTreeSet<u16>>();
+        let all: Vec<BTreeSet<u16>> = self.tasks.iter().map(memory_blocks).collect();
+        (0..all.len()).any(|j| (0..j).any(|i| !all[i].is_disjoint(&all[j])))
     }
 }
 
@@ -257,7 +265,20 @@ pub fn loop_sheet(length: usize, count: usize, other: usize) -> Vec<u16> {
     sheet
 }
 
-/// A file that passes the checks 2 to 10.
+/// In some cache blocks all tasks refer to memory blocks of one library, one or two of each.
+fn link_library(random: &mut Random, tasks: &mut [Task], n: usize) {
+    let start = 60000 / n * n;
+    let linked: Vec<bool> = (0..n).map(|_| random.one_in(2)).collect();
+    let versions = 1 + random.below(2);
+    for m in tasks.iter_mut().flatten().flat_map(|block| &mut block.references) {
+        let (version, c) = (*m as usize / n % versions, *m as usize % n);
+        if linked[c] {
+            *m = (start + n * version + c) as u16;
+        }
+    }
+}
+
+/// A file that passes the checks 2 to 9.
 pub fn made(random: &mut Random) -> Made {
     let n = 1 + random.below(16);
     let t = 1 + random.below(8);
@@ -268,6 +289,13 @@ pub fn made(random: &mut Random) -> Made {
         if let Some(last) = tasks[chosen].iter_mut().find_map(|block| block.references.last_mut()) {
             *last = 65534;
         }
+    }
+    // the tasks of one file in two share a library, and of one in six whole ranges
+    if random.one_in(2) {
+        link_library(random, &mut tasks, n);
+    }
+    if random.one_in(6) {
+        tasks = (0..t).map(|i| task(random, n, i / 2)).collect();
     }
     // one file in three is left without masked blocks
     if !random.one_in(3) {
@@ -293,7 +321,7 @@ pub fn damaged(random: &mut Random, made: &Made, kind: usize) -> Vec<u8> {
             file = packed(made.n, &bodies);
         }
         19 => {
-            // all memory blocks of another task
+            // all memory blocks of another task, which is no fault
             bodies[chosen] = random.pick(&bodies.iter().collect::<Vec<_>>()).clone();
             file = packed(made.n, &bodies);
         }

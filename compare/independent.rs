@@ -1,5 +1,5 @@
-//! Document 01 with Points 1 to 3 of document 02 once more, in plain Rust: by paths, and with sets of rows. Written from the
-//! documents alone, to compare with.
+//! Document 01 with Points 1 to 3 and 5 of document 02 once more, in plain Rust: by paths, and with sets of rows. Written from
+//! the documents alone, to compare with.
 use std::collections::BTreeSet;
 
 pub const AREA: usize = 24832;
@@ -99,11 +99,7 @@ pub fn complete(task: &Task) -> bool {
     from_entry.len() == task.len() && to_end.len() == task.len()
 }
 
-fn memory_blocks(task: &Task) -> BTreeSet<u16> {
-    task.iter().flat_map(|block| block.references.clone()).collect()
-}
-
-/// Checks 8, 9 and 10.
+/// Checks 8 and 9.
 fn decode_all(bodies: &[&[u8]]) -> Result<Vec<Task>, Refusal> {
     let mut tasks = Vec::new();
     for (i, body) in bodies.iter().enumerate() {
@@ -112,15 +108,10 @@ fn decode_all(bodies: &[&[u8]]) -> Result<Vec<Task>, Refusal> {
     if let Some(i) = tasks.iter().position(|task| !complete(task)) {
         return Err((9, i as u8));
     }
-    let used: Vec<_> = tasks.iter().map(memory_blocks).collect();
-    let shares = |j: usize| (0..j).any(|i| !used[i].is_disjoint(&used[j]));
-    if let Some(j) = (0..tasks.len()).find(|&j| shares(j)) {
-        return Err((10, j as u8));
-    }
     Ok(tasks)
 }
 
-/// Reader: checks 2 to 10.
+/// Reader: checks 2 to 9.
 pub fn read(file: &[u8]) -> Result<Project, Refusal> {
     if file.len() < 8 || file.len() > 7544 {
         return Err((2, 255));
@@ -251,32 +242,36 @@ pub fn row(area: &[u16], live: bool, block: usize, number: usize) -> (usize, usi
     (start + (32 * block + number) * 16, 16)
 }
 
-/// The sets of cache blocks that are useful at the end of some block of a task that isn't masked, and those that it may use.
-struct Sets {
-    useful: BTreeSet<BTreeSet<usize>>,
-    used: BTreeSet<BTreeSet<usize>>,
+/// The useful memory blocks at the end of some block of a task that isn't masked, by cache block, and the rows that it may
+/// end with.
+struct Rows {
+    useful: BTreeSet<Row>,
+    ends: BTreeSet<Row>,
 }
 
-/// The sets of a task; none by check 11.
-fn sets(task: &Task, n: usize) -> Option<Sets> {
+/// The rows of a task; none by check 11.
+fn rows(task: &Task, n: usize) -> Option<Rows> {
     let states = states(task, n)?;
     let mut useful = BTreeSet::new();
     for b in (0..task.len()).filter(|&b| !task[b].masked) {
         for held in &states.reaching[b] {
             for wanted in &states.live[b] {
-                useful.insert((0..16).filter(|&c| held[c] == wanted[c] && held[c] != NOTHING).collect());
+                useful.insert(std::array::from_fn(|c| if held[c] == wanted[c] { held[c] } else { NOTHING }));
             }
         }
     }
-    let ends = states.reaching.last().into_iter().flatten();
-    let used = ends.map(|row| (0..16).filter(|&c| row[c] != NOTHING).collect()).collect();
-    Some(Sets { useful, used })
+    let ends = states.reaching.last().cloned().unwrap_or_default();
+    Some(Rows { useful, ends })
 }
 
-/// The pair number of one task preempted by another.
-fn pair_number(preempted: &Sets, preempting: &Sets) -> u16 {
-    let common = |a: &BTreeSet<usize>| preempting.used.iter().map(|b| a.intersection(b).count()).max();
-    preempted.useful.iter().filter_map(common).max().unwrap_or(0) as u16
+/// The pair number of one task preempted by another: a cache block counts where one holds a useful memory block and the other
+/// ends with something else.
+fn pair_number(preempted: &Rows, preempting: &Rows) -> u16 {
+    let replaced = |useful: &Row, end: &Row| {
+        (0..16).filter(|&c| useful[c] != NOTHING && end[c] != NOTHING && end[c] != useful[c]).count()
+    };
+    let most = |useful: &Row| preempting.ends.iter().map(|end| replaced(useful, end)).max();
+    preempted.useful.iter().filter_map(most).max().unwrap_or(0) as u16
 }
 
 /// Table: the pair numbers.
@@ -287,7 +282,7 @@ pub fn table(file: &[u8], area_length: usize, table: &mut [u16]) -> Result<(), R
     let project = read(file)?;
     let mut all = Vec::new();
     for (i, task) in project.tasks.iter().enumerate() {
-        all.push(sets(task, project.n).ok_or((11, i as u8))?);
+        all.push(rows(task, project.n).ok_or((11, i as u8))?);
     }
     table.fill(0);
     for i in 0..all.len() {
@@ -378,31 +373,25 @@ fn is_complete_path(path: &Path, tasks: &[Task]) -> bool {
         && path.blocks.windows(2).all(|pair| task[pair[0] as usize].successors.contains(&(pair[1] as usize)))
 }
 
-/// Makes the references of a block on the cache; how many of them miss.
-fn misses(cache: &mut Row, block: &Block, n: usize) -> u32 {
-    let mut count = 0;
-    for &m in &block.references {
-        let held = &mut cache[m as usize % n];
-        if *held != m {
-            *held = m;
-            count += 1;
-        }
-    }
-    count
+/// Makes the references of a block on the cache; whether each of them hits.
+fn hits(cache: &mut Row, block: &Block, n: usize) -> Vec<bool> {
+    let refer = |&m: &u16| std::mem::replace(&mut cache[m as usize % n], m) == m;
+    block.references.iter().map(refer).collect()
 }
 
-fn run(project: &Project, path: &Path, preemptions: &[(u16, Path)]) -> u32 {
+/// Whether each own reference of a run hits, in order.
+fn run(project: &Project, path: &Path, preemptions: &[(u16, Path)]) -> Vec<bool> {
     let mut cache = [NOTHING; 16];
-    let mut count = 0;
+    let mut own = Vec::new();
     for (position, &block) in path.blocks.iter().enumerate() {
-        count += misses(&mut cache, &project.tasks[path.task][block as usize], project.n);
+        own.extend(hits(&mut cache, &project.tasks[path.task][block as usize], project.n));
         for (_, preempting) in preemptions.iter().filter(|(point, _)| *point as usize == position) {
             for &block in &preempting.blocks {
-                misses(&mut cache, &project.tasks[preempting.task][block as usize], project.n);
+                hits(&mut cache, &project.tasks[preempting.task][block as usize], project.n);
             }
         }
     }
-    count
+    own
 }
 
 /// Checks 12, 13 and 16: the sheet.
@@ -419,35 +408,39 @@ fn checked(project: &Project, sheet: &[u16]) -> Result<Sheet, Refusal> {
     Ok(sheet)
 }
 
-/// U and D.
-fn counts(project: &Project, sheet: &Sheet) -> (u32, u32) {
-    (run(project, &sheet.run, &[]), run(project, &sheet.run, &sheet.preemptions))
+/// U, D and the lost hits: what hits in the undisturbed run and misses in the disturbed one, place by place.
+fn counts(project: &Project, sheet: &Sheet) -> (u32, u32, u32) {
+    let alone = run(project, &sheet.run, &[]);
+    let disturbed = run(project, &sheet.run, &sheet.preemptions);
+    let misses = |own: &[bool]| own.iter().filter(|&&hit| !hit).count() as u32;
+    let lost = alone.iter().zip(&disturbed).filter(|&(&before, &after)| before && !after).count() as u32;
+    (misses(&alone), misses(&disturbed), lost)
 }
 
-/// Replay: U and D.
-pub fn replay(file: &[u8], sheet: &[u16]) -> Result<(u32, u32), Refusal> {
+/// Replay: U, D and the lost hits.
+pub fn replay(file: &[u8], sheet: &[u16]) -> Result<(u32, u32, u32), Refusal> {
     let project = read(file)?;
     Ok(counts(&project, &checked(&project, sheet)?))
 }
 
-/// An accepted file with the sets of each task, none for a task by check 11.
+/// An accepted file with the rows of each task, none for a task by check 11.
 pub struct Analysed {
     project: Project,
-    sets: Vec<Option<Sets>>,
+    rows: Vec<Option<Rows>>,
 }
 
 pub fn analyse(file: &[u8]) -> Result<Analysed, Refusal> {
     let project = read(file)?;
-    let sets = project.tasks.iter().map(|task| sets(task, project.n)).collect();
-    Ok(Analysed { project, sets })
+    let rows = project.tasks.iter().map(|task| rows(task, project.n)).collect();
+    Ok(Analysed { project, rows })
 }
 
-/// What a run is judged by: its task, the tasks of its preemptions in order, and D - U.
+/// What a run is judged by: its task, the tasks of its preemptions in order, and the lost hits.
 #[derive(Debug, PartialEq)]
 pub struct Cost {
     task: usize,
     pub preempting: Vec<usize>,
-    extra: i64,
+    lost: u32,
 }
 
 /// Costliest run: what the run that is written costs. Which run it is, is left free.
@@ -457,7 +450,7 @@ pub fn costliest_run(
     if areas != [AREA, AREA] {
         return Err((1, 255));
     }
-    let Analysed { project, sets } = analysed.as_ref().map_err(|&refusal| refusal)?;
+    let Analysed { project, rows } = analysed.as_ref().map_err(|&refusal| refusal)?;
     let t = project.tasks.len();
     if i == j || i >= t || j >= t {
         return Err((18, 255));
@@ -465,23 +458,23 @@ pub fn costliest_run(
     if sheet_length < 2310 {
         return Err((19, 255));
     }
-    let sets_of = |k: usize| sets[k].as_ref().ok_or((11, k as u8));
+    let rows_of = |k: usize| rows[k].as_ref().ok_or((11, k as u8));
     // of two tasks at fault the lower one is named
-    sets_of(i.min(j))?;
-    let extra = pair_number(sets_of(i)?, sets_of(j)?) as i64;
+    rows_of(i.min(j))?;
+    let lost = pair_number(rows_of(i)?, rows_of(j)?).into();
     let unmasked = project.tasks[i].iter().any(|block| !block.masked);
-    Ok(Cost { task: i, preempting: if unmasked { vec![j] } else { vec![] }, extra })
+    Ok(Cost { task: i, preempting: if unmasked { vec![j] } else { vec![] }, lost })
 }
 
 /// What the run of a sheet costs.
 pub fn cost(analysed: &Result<Analysed, Refusal>, sheet: &[u16]) -> Result<Cost, Refusal> {
     let Analysed { project, .. } = analysed.as_ref().map_err(|&refusal| refusal)?;
     let sheet = checked(project, sheet)?;
-    let (alone, disturbed) = counts(project, &sheet);
+    let (_, _, lost) = counts(project, &sheet);
     Ok(Cost {
         task: sheet.run.task,
         preempting: sheet.preemptions.iter().map(|(_, path)| path.task).collect(),
-        extra: disturbed as i64 - alone as i64,
+        lost,
     })
 }
 

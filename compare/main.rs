@@ -306,12 +306,12 @@ fn compare_replay(report: &mut Report, file: &[u8], sheet: &[u16], places: usize
     let status = calls::replay(file, sheet, &mut found);
     let (mut check, mut expected) = (1, vec![OLD_WIDE; places]);
     let mut faults = vec![];
-    if places == 3 {
+    if places == 4 {
         let answer = independent::replay(file, sheet);
-        let (alone, disturbed) = answer.unwrap_or((0, 0));
+        let (alone, disturbed, lost) = answer.unwrap_or((0, 0, 0));
         check = told(&answer).0;
-        expected = vec![told(&answer).1 as u32, alone, disturbed];
-        let wrapped = crpd::replay(file, sheet).map(|Misses { undisturbed, disturbed }| (undisturbed, disturbed));
+        expected = vec![told(&answer).1 as u32, alone, disturbed, lost];
+        let wrapped = crpd::replay(file, sheet).map(|Misses { undisturbed, disturbed, lost }| (undisturbed, disturbed, lost));
         faults.push(differ("result", &[answer], &[wrapped.map_err(Refusal::numbers)]));
     }
     faults.extend([differ("status", &[check], &[status]), differ("answer", &expected, &found)]);
@@ -321,7 +321,7 @@ fn compare_replay(report: &mut Report, file: &[u8], sheet: &[u16], places: usize
 
 /// A sheet that was made to fail this check; the independent implementation has to give it too.
 fn compare_refused(report: &mut Report, file: &[u8], sheet: &[u16], check: u8) {
-    compare_replay(report, file, sheet, 3);
+    compare_replay(report, file, sheet, 4);
     let found = told(&independent::replay(file, sheet));
     report.add("broken sheet", check, file, format!("{sheet:?}"), vec![differ("status", &[(check, 255)], &[found])]);
 }
@@ -331,19 +331,32 @@ fn filled(table: &[u16]) -> bool {
     table[0] == 0
 }
 
-/// Runs of a file by the proved replay, valid and broken ones; none misses more than the proved table allows.
+/// What a replay's answer breaks of the bounds: `allowed` is the sum of the table's numbers, `shared` whether tasks share.
+fn broken_bound(answer: &[u32], allowed: u32, shared: bool) -> Option<String> {
+    let (alone, disturbed, lost) = (answer[1], answer[2], answer[3]);
+    let kept = lost <= allowed && disturbed <= alone + allowed && (shared || disturbed == alone + lost);
+    (!kept).then(|| format!("{answer:?}, and the table allows {allowed} more"))
+}
+
+/// Runs of a file by the proved replay, valid and broken ones; none loses more hits than the proved table allows.
 fn compare_runs(report: &mut Report, random: &mut Random, made: &Made, file: &[u8], table: &[u16]) {
     let (sheet, preempting) = sheet(random, &made.tasks);
-    let answer = compare_replay(report, file, &sheet, 3);
+    let answer = compare_replay(report, file, &sheet, 4);
     if filled(table) {
         let p = sheet[0] as usize;
         let allowed: u32 = preempting.iter().map(|&j| table[8 * p + j] as u32).sum();
-        let kept = answer[1] <= answer[2] && answer[2] <= answer[1] + allowed;
-        let fault = (!kept).then(|| format!("{answer:?}, and the table allows {allowed} more"));
-        // runs that pass a masked block and are preempted elsewhere are counted apart
+        let shared = made.shares();
+        let fault = broken_bound(&answer, allowed, shared);
+        // runs that pass a masked block and are preempted elsewhere are counted apart, and so are files that share
         let passed = &sheet[2..2 + sheet[1] as usize];
         let masked = !preempting.is_empty() && passed.iter().any(|&block| made.tasks[p][block as usize].masked);
-        let name = if masked { "D - U, masks" } else { "D - U" };
+        let name = match (masked, shared) {
+            (false, false) => "bounds",
+            (true, false) => "bounds, masks",
+            (false, true) if answer[2] < answer[1] => "bounds, D below U",
+            (false, true) => "bounds, shared",
+            (true, true) => "bounds, both",
+        };
         report.add(name, 0, file, format!("{sheet:?}"), vec![fault]);
     }
     let (broken, check) = damaged_sheet(random, &made.tasks, &sheet);
@@ -354,8 +367,8 @@ fn compare_runs(report: &mut Report, random: &mut Random, made: &Made, file: &[u
         let (broken, check) = damaged_sheet(random, &made.tasks, &masked);
         compare_refused(report, file, &broken, check);
     }
-    compare_replay(report, file, &changed_sheet(random, &sheet), 3);
-    compare_replay(report, file, &sheet, random.pick(&[0, 1, 2, 4]));
+    compare_replay(report, file, &changed_sheet(random, &sheet), 4);
+    compare_replay(report, file, &sheet, random.pick(&[0, 1, 2, 3, 5]));
 }
 
 fn compare_microseconds(report: &mut Report, number: u32, penalty: u32, clock: u32, places: usize) {
@@ -461,7 +474,7 @@ fn compare_costliest_run(report: &mut Report, file: &[u8], analysed: &Analysis, 
             name = "no unmasked block";
         }
         if status == 0 {
-            compare_replay(report, file, &sheet[..found[1].min(room)], 3);
+            compare_replay(report, file, &sheet[..found[1].min(room)], 4);
         }
     } else {
         for (name, list) in [("first area", &first), ("second area", &second), ("sheet", &sheet)] {
@@ -516,14 +529,14 @@ fn compare_sheet_limits(report: &mut Report) {
         for length in [1, 2, 64, 65, 1535, 1536, 1537] {
             for count in [0, 1, 15, 16, 17] {
                 for other in [1, 64, 65, 1535, 1536, 1537] {
-                    compare_replay(report, &file, &loop_sheet(length, count, other), 3);
+                    compare_replay(report, &file, &loop_sheet(length, count, other), 4);
                 }
             }
         }
     }
 }
 
-/// The examples of document 01, the same file with flags, and examples of Points 2 and 3 hold of the independent
+/// The examples of document 01, the same file with flags, and examples of Points 2, 3 and 5 hold of the independent
 /// implementation.
 fn examples() {
     let block = |successors: &[usize], references: &[u16]| Block {
@@ -536,9 +549,9 @@ fn examples() {
     let mut table = [7; 64];
     assert_eq!(independent::table(&e, AREA, &mut table), Ok(()));
     assert_eq!((table[1], table[8], table.iter().sum::<u16>()), (1, 0, 1));
-    assert_eq!(independent::replay(&e, &[0, 2, 0, 0, 1, 0, 1, 1, 0]), Ok((2, 3)));
-    assert_eq!(independent::replay(&e, &[0, 2, 0, 0, 0]), Ok((2, 2)));
-    assert_eq!(independent::replay(&e, &[0, 2, 0, 0, 1, 1, 1, 1, 0]), Ok((2, 2)));
+    assert_eq!(independent::replay(&e, &[0, 2, 0, 0, 1, 0, 1, 1, 0]), Ok((2, 3, 1)));
+    assert_eq!(independent::replay(&e, &[0, 2, 0, 0, 0]), Ok((2, 2, 0)));
+    assert_eq!(independent::replay(&e, &[0, 2, 0, 0, 1, 1, 1, 1, 0]), Ok((2, 2, 0)));
     assert_eq!(independent::replay(&e, &[0, 0]), Err((12, 255)));
     assert_eq!(independent::replay(&e, &[0, 1, 5, 0]), Err((13, 255)));
     // byte 18 has the flags of the block of task 0
@@ -547,8 +560,8 @@ fn examples() {
     assert_eq!(independent::table(&masked, AREA, &mut table), Ok(()));
     assert_eq!(table, [0; 64]);
     assert_eq!(independent::replay(&masked, &[0, 2, 0, 0, 1, 0, 1, 1, 0]), Err((16, 255)));
-    assert_eq!(independent::replay(&masked, &[0, 2, 0, 0, 0]), Ok((2, 2)));
-    assert_eq!(independent::replay(&masked, &[1, 1, 0, 1, 0, 0, 1, 0]), Ok((1, 1)));
+    assert_eq!(independent::replay(&masked, &[0, 2, 0, 0, 0]), Ok((2, 2, 0)));
+    assert_eq!(independent::replay(&masked, &[1, 1, 0, 1, 0, 0, 1, 0]), Ok((1, 1, 0)));
     assert_eq!(independent::table(&with_flags(2), AREA, &mut table), Err((8, 0)));
     assert_eq!(independent::microseconds(1, 1, 3), Ok((333, 1)));
     assert_eq!(independent::microseconds(16, 1000, 1), Ok((16_000_000, 0)));
@@ -559,6 +572,30 @@ fn examples() {
     assert_eq!(cost(1, 0, 2310), independent::cost(&analysed, &[1, 1, 0, 1, 0, 0, 1, 0]));
     assert_eq!(cost(0, 2, 2309), Err((18, 255)));
     assert_eq!(cost(0, 1, 2309), Err((19, 255)));
+    shared_examples(&e);
+}
+
+/// Files whose tasks share memory blocks: E where task 1 reads 0, and three files where a claim next to Point 5's is false.
+fn shared_examples(e: &[u8]) {
+    let block = |successors: &[usize], references: &[u16]| Block {
+        masked: false,
+        successors: successors.to_vec(),
+        references: references.to_vec(),
+    };
+    let answers = |file: &[u8], sheet: &[u16]| {
+        let mut table = [7; 64];
+        assert_eq!(independent::table(file, AREA, &mut table), Ok(()));
+        (table[1], table[8], independent::replay(file, sheet))
+    };
+    let reads_0 = [&e[..31], &[0], &e[32..]].concat();
+    assert_eq!(answers(&reads_0, &[0, 2, 0, 0, 1, 0, 1, 1, 0]), (0, 0, Ok((2, 2, 0))));
+    let gain = Made { n: 1, tasks: vec![vec![block(&[1], &[]), block(&[], &[4])], vec![block(&[], &[4])]] }.file();
+    assert_eq!(answers(&gain, &[0, 2, 0, 1, 1, 0, 1, 1, 0]), (0, 0, Ok((1, 0, 0))));
+    let both = Made { n: 2, tasks: vec![vec![block(&[1], &[0]), block(&[], &[0, 1])], vec![block(&[], &[2, 1])]] }.file();
+    assert_eq!(answers(&both, &[0, 2, 0, 1, 1, 0, 1, 1, 0]), (1, 0, Ok((2, 2, 1))));
+    assert_eq!(answers(&both, &[0, 2, 0, 1, 1, 1, 1, 1, 0]), (1, 0, Ok((2, 2, 0))));
+    let same = Made { n: 1, tasks: vec![vec![block(&[0], &[2])], vec![block(&[], &[2])]] }.file();
+    assert_eq!(answers(&same, &[0, 2, 0, 0, 1, 0, 1, 1, 0]), (0, 0, Ok((1, 1, 0))));
 }
 
 /// A valid file: every call with lists of the right length, every task and some that aren't there.
@@ -594,9 +631,9 @@ fn compare_damaged(report: &mut Report, random: &mut Random, made: &Made, seed: 
     for kind in 0..DAMAGES {
         let broken = damaged(random, made, kind);
         compare_file(report, &broken, random.below(made.tasks.len() + 1));
-        compare_replay(report, &broken, &sheet(random, &made.tasks).0, 3);
+        compare_replay(report, &broken, &sheet(random, &made.tasks).0, 4);
         if let Some(masked) = masked_sheet(random, &made.tasks) {
-            compare_replay(report, &broken, &masked, 3);
+            compare_replay(report, &broken, &masked, 4);
         }
         let asked = Asked::of(random.below(made.tasks.len() + 1), random.below(made.tasks.len() + 1));
         compare_costliest_run(report, &broken, &independent::analyse(&broken), asked);

@@ -7,10 +7,10 @@
  * call writes to one of them. The pointer of a list of 0 elements is never followed and may be null, as that of an
  * empty std::vector may be. Any other must not be null.
  *
- * Answers. Each call answers 0 when it is done, or the number of the check that fails first, 1 to 19 (below). What
- * else it has to say stands in its last list (answer, named or found). A last list of another length than the one
- * named here is refused with 1 before anything else, and then no list is written, the last one too: a caller that
- * prints a task after that prints what the list held before. After every other answer each place of the last list
+ * Answers. Each call answers 0 when it is done, or the number of the check that fails first, 1 to 19 but never 10
+ * (below). What else it has to say stands in its last list (answer, named or found). A last list of another length than
+ * the one named here is refused with 1 before anything else, and then no list is written, the last one too: a caller
+ * that prints a task after that prints what the list held before. After every other answer each place of the last list
  * is written.
  *
  * Threads. The calls keep nothing between them, take nothing from the heap and call nothing outside the archive but
@@ -44,7 +44,7 @@ extern "C" {
  *      up to that of the joined bodies
  *   8  a body breaks its layout                                              the lowest task at fault
  *   9  a block of a task is on no complete path                              the lowest task at fault
- *  10  two tasks share a memory block                                        the lowest that shares with an earlier one
+ *  10  is never given any more: tasks may share memory blocks
  *  11  a block has 33 or more reaching or live states                        the lowest task at fault; in crpd_states the
  *                                                                            task asked for, in crpd_costliest_run the
  *                                                                            lower of the two that is at fault
@@ -71,7 +71,6 @@ enum crpd_status {
     CRPD_CHECK_CONTENTS = 7,
     CRPD_CHECK_LAYOUT = 8,
     CRPD_CHECK_COMPLETE_PATHS = 9,
-    CRPD_CHECK_SHARED = 10,
     CRPD_CHECK_STATES = 11,
     CRPD_CHECK_SHEET = 12,
     CRPD_CHECK_SHEET_PATHS = 13,
@@ -122,13 +121,13 @@ enum crpd_status {
 #define CRPD_READ_LENGTH 3           /* answer of crpd_read */
 #define CRPD_PLACE_LENGTH 2          /* found of crpd_body and crpd_row */
 #define CRPD_NAMED_LENGTH 1          /* named of crpd_states and crpd_table */
-#define CRPD_REPLAY_LENGTH 3         /* answer of crpd_replay */
+#define CRPD_REPLAY_LENGTH 4         /* answer of crpd_replay */
 #define CRPD_WRITE_LENGTH 2          /* answer of crpd_write */
 #define CRPD_MICROSECONDS_LENGTH 3   /* answer of crpd_microseconds */
 #define CRPD_COSTLIEST_RUN_LENGTH 2  /* answer of crpd_costliest_run */
 
 /*
- * Reader: n and t of a file. Checks 2 to 10.
+ * Reader: n and t of a file. Checks 2 to 9.
  * file: its bytes, any number of them.
  * answer: CRPD_READ_LENGTH places:
  *   0: the task that the check names, or CRPD_NO_TASK
@@ -140,7 +139,7 @@ uint8_t crpd_read(const uint8_t *file, size_t file_length, uint8_t *answer, size
 /*
  * Body: where a task's body stands in a file. Refuses nothing but a found of another length, with 1.
  * file: its bytes, any number of them. task: any number.
- * found: CRPD_PLACE_LENGTH places, both 0 if the file isn't accepted (checks 2 to 10) or the task isn't below t:
+ * found: CRPD_PLACE_LENGTH places, both 0 if the file isn't accepted (checks 2 to 9) or the task isn't below t:
  *   0: the offset of the body in the file
  *   1: its length in bytes, up to CRPD_BODY_LENGTH
  */
@@ -148,7 +147,7 @@ uint8_t crpd_body(
     const uint8_t *file, size_t file_length, size_t task, size_t *found, size_t found_length);
 
 /*
- * States: the reaching and live states of a task. Checks 1 to 10, 15, and then 11 for this task.
+ * States: the reaching and live states of a task. Checks 1 to 9, 15, and then 11 for this task.
  * file: its bytes, any number of them. task: any number.
  * area: CRPD_AREA_LENGTH places. One of another length is refused with 1 and keeps its contents. After every other
  * refusal each place is 0. When the call is done:
@@ -180,13 +179,14 @@ uint8_t crpd_row(
     size_t *found, size_t found_length);
 
 /*
- * Table: the pair numbers of a file. Checks 1 to 11.
+ * Table: the pair numbers of a file. Checks 1 to 9 and 11.
  * file: its bytes, any number of them.
  * area: CRPD_AREA_LENGTH places to work in, which may hold anything before. Where named is of the right length they
  * may hold anything afterwards, refused or not.
  * numbers: CRPD_TABLE_LENGTH places, which keep their contents after a refusal. When the call is done:
- *   CRPD_TABLE_WIDTH * i + j: the number of task i preempted by task j, over the blocks of i that are not masked; 0
- *     where i has no such block, i is j or one of them is absent
+ *   CRPD_TABLE_WIDTH * i + j: the number of task i preempted by task j, over the blocks of i that are not masked: the
+ *     most cache blocks that are useful in i and where j ends with a memory block other than the useful one; 0 where i
+ *     has no such block, i is j or one of them is absent
  * named: CRPD_NAMED_LENGTH place:
  *   0: the task that the check names, or CRPD_NO_TASK
  */
@@ -195,7 +195,7 @@ uint8_t crpd_table(
     uint16_t *numbers, size_t numbers_length, uint8_t *named, size_t named_length);
 
 /*
- * Replay: the misses of a task's own references in a run, from an empty cache. Checks 2 to 10, 12, 13 and 16.
+ * Replay: the misses of a task's own references in a run, from an empty cache. Checks 2 to 9, 12, 13 and 16.
  * file: its bytes, any number of them.
  * sheet: any number of places, of which check 12 asks, in this order and with nothing after them:
  *   task p, below t
@@ -211,14 +211,16 @@ uint8_t crpd_table(
  * answer: CRPD_REPLAY_LENGTH places:
  *   0: the task that the check names, or CRPD_NO_TASK
  *   1: U, the misses without the preemptions; 0 after a refusal
- *   2: D, the misses with them; 0 after a refusal
+ *   2: D, the misses with them; 0 after a refusal. Where tasks share memory blocks D may be below U.
+ *   3: the lost hits: the own references that hit without the preemptions and miss with them; 0 after a refusal. They are
+ *      at most the sum of the pair numbers of p preempted by the task of each preemption, and D is at most U + that sum.
  */
 uint8_t crpd_replay(
     const uint8_t *file, size_t file_length, const uint16_t *sheet, size_t sheet_length,
     uint32_t *answer, size_t answer_length);
 
 /*
- * Writer: the packed file of some bodies. Checks 5, 6 (the number of lengths), 7, 8, 9, 10 and 14.
+ * Writer: the packed file of some bodies. Checks 5, 6 (the number of lengths), 7, 8, 9 and 14.
  * n: the cache blocks. bodies: all bodies, joined. lengths: the length of each body in bytes, 1 to CRPD_TASKS of them.
  * out: any number of places; CRPD_FILE_LENGTH of them always suffice. When the call is done the file stands at the
  * front. The places after the file keep their contents, and after a refusal all do.
@@ -244,9 +246,9 @@ uint8_t crpd_write(
 uint8_t crpd_microseconds(uint32_t number, uint32_t penalty, uint32_t clock, uint32_t *answer, size_t answer_length);
 
 /*
- * Costliest run: a run of task i with one preemption by task j that costs as much as any: crpd_replay answers U and D
- * of its sheet, and D - U is the pair number of i preempted by j. Where several runs cost as much, any of them may be
- * written. Checks 1 to 10, 18, 19, and then 11 for these two tasks alone.
+ * Costliest run: a run of task i with one preemption by task j that costs as much as any: the lost hits that crpd_replay
+ * answers for its sheet are the pair number of i preempted by j. Where several runs cost as much, any of them may be
+ * written. Checks 1 to 9, 18, 19, and then 11 for these two tasks alone.
  * file: its bytes, any number of them. i, j: any numbers.
  * first, second: CRPD_AREA_LENGTH places each to work in, which may hold anything before. Where answer is of
  * the right length they may hold anything afterwards, refused or not.

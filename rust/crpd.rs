@@ -15,7 +15,7 @@ pub const NOTHING: u16 = 65535;
 /// In the answers of the calls for C: no task.
 const NO_TASK: u8 = 255;
 
-/// The check that fails first, 1 to 19, and the task that it names.
+/// The check that fails first, 1 to 19 but never 10, and the task that it names.
 #[derive(Clone, Copy, Debug, PartialEq, Eq)]
 pub struct Refusal {
     pub check: u8,
@@ -52,11 +52,13 @@ pub struct Head {
     pub tasks: u8,
 }
 
-/// The misses of a task's own references: U, without the preemptions, and D, with them.
+/// The misses of a task's own references: U, without the preemptions, and D, with them; and the lost hits, those own
+/// references that hit without the preemptions and miss with them.
 #[derive(Clone, Copy, Debug, PartialEq, Eq)]
 pub struct Misses {
     pub undisturbed: u32,
     pub disturbed: u32,
+    pub lost: u32,
 }
 
 /// A time, not rounded: `whole` + `remainder` / clock microseconds, with the remainder below the clock in kHz.
@@ -72,7 +74,7 @@ fn result<T>(status: u8, task: u8, done: T) -> Result<T, Refusal> {
     if status == 0 { Ok(done) } else { Err(Refusal::new(status, task)) }
 }
 
-/// Reader: checks 2 to 10.
+/// Reader: checks 2 to 9.
 #[inline]
 pub fn read(file: &[u8]) -> Result<Head, Refusal> {
     let mut answer = [0; 3];
@@ -89,7 +91,7 @@ pub fn body(file: &[u8], task: usize) -> &[u8] {
     &file[found[0]..found[0] + found[1]]
 }
 
-/// States: checks 1 to 10, 15, and 11 for this task. The area gets the states; after a refusal it holds zeros, except
+/// States: checks 1 to 9, 15, and 11 for this task. The area gets the states; after a refusal it holds zeros, except
 /// after 1, which changes nothing.
 #[inline]
 pub fn states(file: &[u8], task: usize, area: &mut [u16]) -> Result<(), Refusal> {
@@ -106,7 +108,7 @@ pub fn row(area: &[u16], live: bool, block: usize, number: usize) -> &[u16] {
     &area[found[0]..found[0] + found[1]]
 }
 
-/// Table: checks 1 to 11. The table gets the pair numbers, and keeps its contents after a refusal; what the area holds
+/// Table: checks 1 to 9 and 11. The table gets the pair numbers, and keeps its contents after a refusal; what the area holds
 /// afterwards is free.
 #[inline]
 pub fn table(file: &[u8], area: &mut [u16], numbers: &mut [u16]) -> Result<(), Refusal> {
@@ -115,17 +117,17 @@ pub fn table(file: &[u8], area: &mut [u16], numbers: &mut [u16]) -> Result<(), R
     result(status, named[0], ())
 }
 
-/// Replay: checks 2 to 10, 12, 13 and 16.
+/// Replay: checks 2 to 9, 12, 13 and 16.
 #[inline]
 pub fn replay(file: &[u8], sheet: &[u16]) -> Result<Misses, Refusal> {
-    let mut answer = [0; 3];
+    let mut answer = [0; 4];
     let status = calls::replay(file, sheet, &mut answer);
-    let [task, undisturbed, disturbed] = answer;
+    let [task, undisturbed, disturbed, lost] = answer;
     // a task that is named is a byte
-    result(status, task as u8, Misses { undisturbed, disturbed })
+    result(status, task as u8, Misses { undisturbed, disturbed, lost })
 }
 
-/// Writer: checks 5 to 10 and 14. The front of the out list gets the file, whose length is answered.
+/// Writer: checks 5 to 9 and 14. The front of the out list gets the file, whose length is answered.
 #[inline]
 pub fn write(n: u8, bodies: &[u8], lengths: &[usize], out: &mut [u8]) -> Result<usize, Refusal> {
     let mut answer = [0; 2];
@@ -145,7 +147,7 @@ pub fn microseconds(number: u32, penalty: u32, clock: u32) -> Result<Time, Refus
     result(status, task as u8, Time { whole, remainder })
 }
 
-/// Costliest run of task i preempted once by task j: checks 1 to 10, 18, 19, and 11 for the two tasks. The front of the
+/// Costliest run of task i preempted once by task j: checks 1 to 9, 18, 19, and 11 for the two tasks. The front of the
 /// sheet gets the run, whose length is answered; the places after it keep their contents, and after a refusal all do.
 /// What the areas hold afterwards is free.
 #[inline]

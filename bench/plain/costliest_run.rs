@@ -1,5 +1,5 @@
 //! The costliest run the plain way.
-use super::table::{useful, used};
+use super::table::{replaced, useful};
 use super::{after, before, predecessors, read, Refusal, Row, Task, MOST_STATES, NOTHING};
 use std::collections::BTreeMap;
 
@@ -70,7 +70,6 @@ fn path_to(reaching: &Parents, block: usize, row: &Row) -> Vec<u16> {
 /// Where a preemption costs most: a block of the task that isn't masked, a reaching and a live row of it and a row that the other task
 /// ends with; none if all blocks are masked.
 fn costliest<'a>(task: &Task, own: &'a Gathered, other: &'a Parents) -> Option<(usize, &'a Row, &'a Row, &'a Row)> {
-    let ends: BTreeMap<u32, &Row> = other[other.len() - 1].keys().map(|row| (used(row), row)).collect();
     let mut most = 0;
     let mut found = None;
     for b in 0..task.len() {
@@ -78,13 +77,14 @@ fn costliest<'a>(task: &Task, own: &'a Gathered, other: &'a Parents) -> Option<(
             continue;
         }
         for r in own.reaching[b].keys() {
+            let sets: Vec<(u32, &Row)> = other[other.len() - 1].keys().map(|end| (replaced(end, r), end)).collect();
             for l in own.live[b].keys() {
                 let u = useful(r, l);
-                for (v, e) in &ends {
+                for &(v, e) in &sets {
                     let number = (u & v).count_ones();
                     if found.is_none() || most < number {
                         most = number;
-                        found = Some((b, r, l, *e));
+                        found = Some((b, r, l, e));
                     }
                 }
             }

@@ -96,7 +96,7 @@ fn all_on_paths(task: &Task) -> bool {
     (0..task.len()).all(|b| forth[b] && leading[b])
 }
 
-/// Checks 2 to 10: n and the tasks of a file.
+/// Checks 2 to 9: n and the tasks of a file.
 pub fn read(file: &[u8]) -> Result<(usize, Vec<Task>), Refusal> {
     if file.len() < 8 || 7544 < file.len() {
         return Err((2, 255));
@@ -136,7 +136,7 @@ fn contents(file: &[u8], t: usize) -> Option<Vec<&[u8]>> {
     if at == file.len() { Some(bodies) } else { None }
 }
 
-/// Checks 8 to 10: the tasks of some bodies.
+/// Checks 8 and 9: the tasks of some bodies.
 fn tasks(bodies: &[&[u8]]) -> Result<Vec<Task>, Refusal> {
     let mut tasks = Vec::new();
     for (j, body) in bodies.iter().enumerate() {
@@ -146,14 +146,6 @@ fn tasks(bodies: &[&[u8]]) -> Result<Vec<Task>, Refusal> {
         if !all_on_paths(task) {
             return Err((9, j as u8));
         }
-    }
-    let mut seen = BTreeSet::new();
-    for (j, task) in tasks.iter().enumerate() {
-        let own: BTreeSet<u16> = task.iter().flat_map(|b| b.references.iter().copied()).collect();
-        if own.iter().any(|m| seen.contains(m)) {
-            return Err((10, j as u8));
-        }
-        seen.extend(own);
     }
     Ok(tasks)
 }

@@ -16,9 +16,9 @@ struct Run<'a> {
     preemptions: Vec<Preemption<'a>>,
 }
 
-/// The misses of a run without and with its preemptions.
+/// The misses of a run without and with its preemptions, and the hits that became misses.
 #[inline(never)]
-pub fn replay(file: &[u8], sheet: &[u16]) -> Result<(u32, u32), Refusal> {
+pub fn replay(file: &[u8], sheet: &[u16]) -> Result<(u32, u32, u32), Refusal> {
     let (n, tasks) = read(file)?;
     let run = parse(sheet, tasks.len()).ok_or((12, 255))?;
     let all_complete = complete(&tasks[run.task], run.path)
@@ -29,7 +29,7 @@ pub fn replay(file: &[u8], sheet: &[u16]) -> Result<(u32, u32), Refusal> {
     if run.preemptions.iter().any(|p| tasks[run.task][run.path[p.point] as usize].masked) {
         return Err((16, 255));
     }
-    Ok((misses(n, &tasks, &run, &[]), misses(n, &tasks, &run, &run.preemptions)))
+    Ok(misses(n, &tasks, &run))
 }
 
 /// The first number of the rest of a sheet.
@@ -81,31 +81,34 @@ fn complete(task: &Task, path: &[u16]) -> bool {
         && path.windows(2).all(|w| task[w[0] as usize].successors.contains(&(w[1] as usize)))
 }
 
-/// Makes the references of a block; answers how many of them miss.
-fn make(row: &mut [u16], references: &[u16]) -> u32 {
-    let mut count = 0;
-    for &m in references {
-        let place = &mut row[m as usize % row.len()];
-        if *place != m {
-            *place = m;
-            count += 1;
-        }
-    }
-    count
+/// Makes a reference; answers whether it hits.
+fn hits(row: &mut [u16], m: u16) -> bool {
+    let place = &mut row[m as usize % row.len()];
+    let hit = *place == m;
+    *place = m;
+    hit
 }
 
-/// The misses of the run's own references with these preemptions.
-fn misses(n: usize, tasks: &[Task], run: &Run, preemptions: &[Preemption]) -> u32 {
-    let mut row = vec![NOTHING; n];
-    let mut count = 0;
-    let mut coming = preemptions.iter().peekable();
+/// The misses of the run's own references without and with the preemptions, and those that hit without and miss with them.
+fn misses(n: usize, tasks: &[Task], run: &Run) -> (u32, u32, u32) {
+    let mut alone = vec![NOTHING; n];
+    let mut disturbed = vec![NOTHING; n];
+    let mut counts = (0, 0, 0);
+    let mut coming = run.preemptions.iter().peekable();
     for (position, &b) in run.path.iter().enumerate() {
-        count += make(&mut row, &tasks[run.task][b as usize].references);
+        for &m in &tasks[run.task][b as usize].references {
+            let (before, after) = (hits(&mut alone, m), hits(&mut disturbed, m));
+            counts.0 += u32::from(!before);
+            counts.1 += u32::from(!after);
+            counts.2 += u32::from(before && !after);
+        }
         while let Some(p) = coming.next_if(|p| p.point == position) {
             for &c in p.path {
-                make(&mut row, &tasks[p.task][c as usize].references);
+                for &m in &tasks[p.task][c as usize].references {
+                    hits(&mut disturbed, m);
+                }
             }
         }
     }
-    count
+    counts
 }

@@ -12,27 +12,29 @@ pub fn useful(reached: &Row, next: &Row) -> u32 {
     set
 }
 
-pub fn used(row: &Row) -> u32 {
+pub fn replaced(end: &Row, reached: &Row) -> u32 {
     let mut set = 0;
-    for (c, &m) in row.iter().enumerate() {
-        if m != NOTHING {
+    for c in 0..reached.len() {
+        if end[c] != NOTHING && end[c] != reached[c] {
             set |= 1 << c;
         }
     }
     set
 }
 
-/// The most cache blocks that are useful in some block of one task that isn't masked and in one of the sets of the other.
-fn pair_number(task: &Task, reached: &[BTreeSet<Row>], lived: &[BTreeSet<Row>], sets: &BTreeSet<u32>) -> u32 {
+/// The most cache blocks that are useful in some block of one task that isn't masked and replaced by one of the rows that the other ends
+/// with.
+fn pair_number(task: &Task, reached: &[BTreeSet<Row>], lived: &[BTreeSet<Row>], ends: &BTreeSet<Row>) -> u32 {
     let mut most = 0;
     for b in 0..task.len() {
         if task[b].masked {
             continue;
         }
         for r in &reached[b] {
+            let sets: Vec<u32> = ends.iter().map(|end| replaced(end, r)).collect();
             for l in &lived[b] {
                 let u = useful(r, l);
-                for v in sets {
+                for v in &sets {
                     most = most.max((u & v).count_ones());
                 }
             }
@@ -61,8 +63,7 @@ pub fn table(file: &[u8], area: &mut [u16], numbers: &mut [u16]) -> Result<(), R
             if i == j {
                 continue;
             }
-            let sets: BTreeSet<u32> = other[tasks[j].len() - 1].iter().map(used).collect();
-            numbers[8 * i + j] = pair_number(&tasks[i], reached, lived, &sets) as u16;
+            numbers[8 * i + j] = pair_number(&tasks[i], reached, lived, &other[tasks[j].len() - 1]) as u16;
         }
     }
     Ok(())

@@ -1,5 +1,5 @@
 -- Replay of the sheet that is written answers the pair number: `costliest-replayed`.
--- The idea: the run fits a sheet, so that Replay accepts the run's sheet and answers its U and D.
+-- The idea: the run fits a sheet, so that Replay accepts the run's sheet and answers its U, D and lost hits.
 use mathlib.Core.Path.{_≡_, refl, sym, ap, _∙_}
 use mathlib.Core.Bool.{true}
 use mathlib.Core.List.{List, _++_}
@@ -23,7 +23,7 @@ use Rattle.reader.proofs.TaskBodies.{passing-accepted}
 use Rattle.sheet.specs.Sheet.{runNumbers}
 use Rattle.replay.proofs.Replays.{run-replayed}
 use Rattle.costliest.specs.Costliest.{test1, askedChecks, twoChecks, costliestCheck, WrittenRun, CostliestAnswer}
-use Rattle.claims.specs.Demand.{fileU, fileD}
+use Rattle.claims.specs.Demand.{fileU, fileD, fileLost}
 use Rattle.claims.specs.CostliestRuns.{ReplaysNumber}
 
 lengthOf : Writing → ℕ
@@ -39,6 +39,7 @@ written-replayed s ok i j old l new x =
     record {
       u = fileU s (x .run);
       d = fileD s (x .run);
+      lost = fileLost s (x .run);
       replayed = rw cut (run-replayed s ok (x .run) (x .costliest .fits));
       costs = x .costliest .costs;
     }

@@ -1,15 +1,18 @@
 -- Demand 3 whole, over accepted files: `demand-3-whole`.
 -- The idea: an accepted file's tasks keep the rules; a table that is filled is the table of the definitions, and an accepted sheet is that of a disturbed run.
 use mathlib.Core.Path.{_≡_, refl, sym, ap, _∙_}
+use mathlib.Core.Logic.{_≢_}
 use mathlib.Core.List.{List}
 use Prim.Native.Nat.{ℕ, _+_, _*_, _<_}
 use native.Mathlib.Nat.{zero-add}
 use native.Mathlib.Omega.{arith}
 use lib.ListN.{getD}
 use borrow.Author.Tests.{lt-ltb, ne-eqb}
-use Rattle.model.specs.Tasks.{task}
+use Rattle.model.specs.Tasks.{task, Apart}
 use Rattle.model.specs.Numbers.{NumberOverAll}
-use Rattle.model.proofs.Most.{pair-is, without-masks}
+use Rattle.model.proofs.Most.{pair-is}
+use Rattle.model.proofs.OldNumbers.{without-masks}
+use Rattle.model.proofs.Bounds.{bounded-apart}
 use Rattle.project.specs.declared.answers.Check.{Check}
 use Rattle.project.specs.declared.answers.Check.the-variants.{Passed}
 use Rattle.project.specs.declared.answers.Check.the-variants.{Refused as Failed}
@@ -23,13 +26,13 @@ use Rattle.project.specs.Tasks.{tasksOf, filePair, fileCache}
 use Rattle.project.specs.declared.answers.Reading.the-variants.{Accepted}
 use Rattle.project.proofs.TaskFaults.{Bytes}
 use Rattle.project.proofs.Accepted.{unless-passed, then-passed, passing, accepted-passed}
-use Rattle.project.proofs.FileRules.{file-demand-3}
+use Rattle.project.proofs.FileRules.{file-rules, file-demand-3}
 use Rattle.table.specs.Table.{test1, tableCheck, entryOf, tableOf}
 use Rattle.table.proofs.TableLaws.{place-at}
 use Rattle.table.proofs.Answers.{later-parts}
 use Rattle.replay.proofs.Replays.{replayed, run-replayed, sheet-two-bytes}
 use Rattle.claims.proofs.Sheets.{of-the-run}
-use Rattle.claims.specs.Demand.{TableEntries, NoMasks, Demand3Whole}
+use Rattle.claims.specs.Demand.{TableEntries, NoMasks, RunsApart, Demand3Whole}
 
 pub filled-passed : (c : Check) → pickFilling c ≡ Filled → c ≡ Passed
 filled-passed Passed e = refl
@@ -61,6 +64,11 @@ demand-3-whole s h n t e =
       sheets = λ run f. (run-replayed s (ap accepted e) run f, sheet-two-bytes s (ap accepted e) run f);
     }
 
--- a file without masked blocks has the numbers of document 01 alone
-pub numbers-without-masks : (s : List ℕ) → NoMasks s → (i j : ℕ) → NumberOverAll (fileCache s) (task (tasksOf s) i) (task (tasksOf s) j) (filePair s i j)
-numbers-without-masks s free i j = without-masks (fileCache s) (task (tasksOf s) i) (task (tasksOf s) j) (free i)
+-- a file of which no two tasks share a memory block
+pub runs-apart : (s : List ℕ) → Bytes s → (n t : ℕ) → readingOf s ≡ Accepted n t → Apart (tasksOf s) → RunsApart s
+runs-apart s h n t e apart run = bounded-apart (fileCache s) (tasksOf s) (file-rules s h n t e) run apart
+
+-- such a file without masked blocks has the numbers of document 01 alone
+pub numbers-without-masks : (s : List ℕ) → Apart (tasksOf s) → NoMasks s → (i j : ℕ) → i ≢ j
+    → NumberOverAll (fileCache s) (task (tasksOf s) i) (task (tasksOf s) j) (filePair s i j)
+numbers-without-masks s apart free i j ne = without-masks (fileCache s) (task (tasksOf s) i) (task (tasksOf s) j) (apart i j ne) (free i)

@@ -1,5 +1,6 @@
 pub mod Papers
 pub mod Demand
+pub mod OldTables
 pub mod Neighbours
 pub mod Times
 mod Sheets

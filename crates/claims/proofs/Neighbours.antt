@@ -1,7 +1,7 @@
--- False neighbours of demand 3 and of Point 3, refuted over files and calls.
+-- False neighbours of demand 3 and of Points 3 and 5, refuted over files and calls.
 -- The idea: E's replay has U = 2 and D = 3, and its pair numbers are 1 and 0; with byte 18 = 01 task 0 is masked, with byte 28 = 01 task 1.
 use mathlib.Core.Path.{_≡_, refl, ap}
-use mathlib.Core.List.{List, [], _∷_}
+use mathlib.Core.List.{List, [], _∷_, map}
 use Prim.Native.Nat.{ℕ, _+_, _≤_}
 use native.Mathlib.Omega.{arith}
 use lib.ListN.{length, set}
@@ -9,21 +9,27 @@ use Rattle.cache.specs.References.{nothing, numbers}
 use Rattle.model.specs.Tasks.{SomeUnmasked, stay, task}
 use Rattle.model.specs.Numbers.{NumberOverAll}
 use Rattle.model.specs.Runs.{DisturbedRun, OnceBy}
-use Rattle.model.proofs.Neighbours.{over-all-1, all-masked, none-costs-1, masked-1}
+use Rattle.model.specs.Computed.{usedNumber}
+use Rattle.model.specs.Figures.{tasksGain, tasksBoth, tasksSame}
+use Rattle.model.proofs.Neighbours.{over-all-1, all-masked, none-loses-1, masked-1}
+use Rattle.model.proofs.SharedNeighbours.{both-never}
+use Rattle.body.specs.Layout.{bodyBytes}
 use Rattle.body.specs.Decode.{decode, blocksFrom}
+use Rattle.project.specs.File.{fileOf}
 use Rattle.project.specs.FileE.{fileE}
 use Rattle.project.specs.declared.answers.Reading.the-variants.{Accepted}
 use Rattle.project.specs.Reading.{readingOf}
 use Rattle.project.specs.Tasks.{tasksOf, fileCache, filePair}
+use Rattle.sheet.specs.Parsed.{preemptionsFrom, afterPath, parse}
 use Rattle.replay.specs.declared.Replaying.the-variants.{Counted}
 use Rattle.replay.specs.Replay.{replayingOf}
 use Rattle.costliest.specs.Costliest.{Costliest}
-use Rattle.claims.specs.Demand.{fileU, fileD}
+use Rattle.claims.specs.Demand.{fileU, fileD, fileLost}
 use Rattle.claims.proofs.Papers.{papers}
 
 -- "a preemption costs nothing"
-pub not-D-le-U : ((s sheet : List ℕ) (u d : ℕ) → replayingOf s sheet ≡ Counted u d → d ≤ u) → ⊥
-not-D-le-U h = let l : 3 ≤ 2 = h fileE (0 ∷ 2 ∷ 0 ∷ 0 ∷ 1 ∷ 0 ∷ 1 ∷ 1 ∷ 0 ∷ []) 2 3 (papers .replayed) in omega arith
+pub not-D-le-U : ((s sheet : List ℕ) (u d l : ℕ) → replayingOf s sheet ≡ Counted u d l → d ≤ u) → ⊥
+not-D-le-U h = let l : 3 ≤ 2 = h fileE (0 ∷ 2 ∷ 0 ∷ 0 ∷ 1 ∷ 0 ∷ 1 ∷ 1 ∷ 0 ∷ []) 2 3 1 (papers .replayed) in omega arith
 
 number01 : filePair fileE 0 1 ≡ 1
 unfolding nothing numbers decode blocksFrom
@@ -34,8 +40,8 @@ unfolding nothing numbers decode blocksFrom
 number10 = refl
 
 -- "every preemption costs its number"
-pub not-always-reached : ((sheet : List ℕ) (u d : ℕ) → replayingOf fileE (0 ∷ 2 ∷ 0 ∷ 0 ∷ 1 ∷ sheet) ≡ Counted u d → d ≡ u + filePair fileE 0 1) → ⊥
-not-always-reached h = let e = h (1 ∷ 1 ∷ 1 ∷ 0 ∷ []) 2 2 (papers .later) in omega (arith, e, number01)
+pub not-always-reached : ((sheet : List ℕ) (u d l : ℕ) → replayingOf fileE (0 ∷ 2 ∷ 0 ∷ 0 ∷ 1 ∷ sheet) ≡ Counted u d l → l ≡ filePair fileE 0 1) → ⊥
+not-always-reached h = let e = h (1 ∷ 1 ∷ 1 ∷ 0 ∷ []) 2 2 0 (papers .later) in omega (arith, e, number01)
 
 -- "who preempts whom does not matter"
 pub not-symmetric : ((s : List ℕ) → filePair s 0 1 ≡ filePair s 1 0) → ⊥
@@ -50,9 +56,9 @@ masked1 = set fileE 28 1
 
 -- "the number over all blocks, masked ones too, is reached"
 pub not-over-all : ((s : List ℕ) (n t i j x : ℕ) → readingOf s ≡ Accepted n t → NumberOverAll (fileCache s) (task (tasksOf s) i) (task (tasksOf s) j) x
-    → (run : DisturbedRun (tasksOf s)) × (run .p ≡ i) × (fileD s run ≡ fileU s run + x)) → ⊥
+    → (run : DisturbedRun (tasksOf s)) × (run .p ≡ i) × (fileLost s run ≡ x)) → ⊥
 unfolding nothing numbers decode blocksFrom
-not-over-all h = let (run, p, e) = h masked0 2 2 0 1 1 refl over-all-1 in none-costs-1 run p e
+not-over-all h = let (run, p, e) = h masked0 2 2 0 1 1 refl over-all-1 in none-loses-1 run p e
 
 -- "a masked preempting task costs nothing"
 pub not-by-masked : ((s : List ℕ) (n t i j : ℕ) → readingOf s ≡ Accepted n t → (SomeUnmasked (task (tasksOf s) j) → ⊥) → filePair s i j ≡ 0) → ⊥
@@ -86,3 +92,38 @@ quiet-costs = record {
 pub not-always-once : ((s : List ℕ) (i j : ℕ) (run : DisturbedRun (tasksOf s)) → Costliest s i j run → OnceBy j (run .preemptions)) → ⊥
 unfolding quiet-run
 not-always-once h = let (x, e, b) = h masked0 0 1 quiet-run quiet-costs in let z : _≡_ {A = ℕ} 0 1 = ap length e in omega arith
+
+-- ---- files whose tasks share memory blocks
+
+abbrev gainFile : List ℕ
+gainFile = fileOf 1 (map bodyBytes tasksGain)
+
+abbrev bothFile : List ℕ
+bothFile = fileOf 2 (map bodyBytes tasksBoth)
+
+abbrev sameFile : List ℕ
+sameFile = fileOf 1 (map bodyBytes tasksSame)
+
+-- what Reader and Replay answer for them, and the third file's numbers by both counts
+pub shared-answers : (readingOf gainFile ≡ Accepted 1 2) × (readingOf bothFile ≡ Accepted 2 2) × (readingOf sameFile ≡ Accepted 1 2)
+    × (replayingOf gainFile (0 ∷ 2 ∷ 0 ∷ 1 ∷ 1 ∷ 0 ∷ 1 ∷ 1 ∷ 0 ∷ []) ≡ Counted 1 0 0)
+    × (replayingOf bothFile (0 ∷ 2 ∷ 0 ∷ 1 ∷ 1 ∷ 0 ∷ 1 ∷ 1 ∷ 0 ∷ []) ≡ Counted 2 2 1)
+    × (replayingOf bothFile (0 ∷ 2 ∷ 0 ∷ 1 ∷ 1 ∷ 1 ∷ 1 ∷ 1 ∷ 0 ∷ []) ≡ Counted 2 2 0)
+    × (filePair bothFile 0 1 ≡ 1) × (filePair sameFile 0 1 ≡ 0)
+unfolding nothing numbers decode blocksFrom parse afterPath preemptionsFrom
+shared-answers = (refl, refl, refl, refl, refl, refl, refl, refl)
+
+-- "U <= D"
+pub not-U-le-D : ((s sheet : List ℕ) (u d l : ℕ) → replayingOf s sheet ≡ Counted u d l → u ≤ d) → ⊥
+not-U-le-D h = let l : 1 ≤ 0 = h gainFile (0 ∷ 2 ∷ 0 ∷ 1 ∷ 1 ∷ 0 ∷ 1 ∷ 1 ∷ 0 ∷ []) 1 0 0 (shared-answers .3) in omega arith
+
+-- "D - U reaches the number"
+pub not-D-reaches : ((s : List ℕ) (n t i j : ℕ) → readingOf s ≡ Accepted n t
+    → (run : DisturbedRun (tasksOf s)) × (run .p ≡ i) × OnceBy j (run .preemptions) × (fileD s run ≡ fileU s run + filePair s i j)) → ⊥
+unfolding nothing numbers decode blocksFrom
+not-D-reaches h = let (run, p, once, e) = h bothFile 2 2 0 1 (shared-answers .1) in both-never run p once e
+
+-- "a file's numbers are those of the old count"
+pub not-old-count : ((s : List ℕ) (n t i j : ℕ) → readingOf s ≡ Accepted n t → filePair s i j ≡ usedNumber (fileCache s) (task (tasksOf s) i) (task (tasksOf s) j)) → ⊥
+unfolding nothing numbers decode blocksFrom
+not-old-count h = let e : _≡_ {A = ℕ} 0 1 = h sameFile 1 2 0 1 (shared-answers .2) in omega arith

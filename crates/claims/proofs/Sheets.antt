@@ -1,4 +1,4 @@
--- A run's sheet is its own: what Replay answers to the sheet of a run is the run's U and D.
+-- A run's sheet is its own: what Replay answers to the sheet of a run is the run's U, D and lost hits.
 -- The idea: a sheet tells its run, number by number; so an accepted sheet of a run has the bounds, and the run fits.
 use mathlib.Core.Path.{_≡_, refl, ap, _∙_}
 use mathlib.Core.List.{List, [], _∷_, _++_}
@@ -6,7 +6,7 @@ use Prim.Native.Nat.{ℕ}
 use native.Mathlib.Omega.{arith}
 use lib.ListN.{length, getD, drop}
 use Rattle.model.specs.Tasks.{task}
-use Rattle.model.specs.Runs.{Preemption, countAtEnd}
+use Rattle.model.specs.Runs.{Preemption, countAtEnd, lostAtEnd}
 use Rattle.project.specs.Tasks.{tasksOf, fileCache}
 use Rattle.project.proofs.TaskFaults.{Bytes}
 use Rattle.sheet.specs.Sheet.{SheetRun, preemptionNumbers, sheetNumbers, sheetRun}
@@ -46,13 +46,20 @@ sheet-same r q e =
     let (p, rest) = append-split (r .path) (length (r .preemptions) ∷ preemptionNumbers (r .preemptions)) (q .path) (length (q .preemptions) ∷ preemptionNumbers (q .preemptions)) c (ap (drop 2) e) in
     (ap (λ l. getD l 0 0) e, p, preemptions-same (r .preemptions) (q .preemptions) (ap (λ l. getD l 0 0) rest) (ap (drop 1) rest))
 
--- what Replay answers to the sheet of a run is U and D of that run, whichever run it is
+-- what Replay answers to the sheet of a run is U, D and the lost hits of that run, whichever run it is
 pub of-the-run : (s : List ℕ) → Bytes s → ReplayAnswers s
-of-the-run s h run u d e =
-    let x = replayed s h (sheetOf s run) u d e in
-    let (a, b, c) = sheet-same (sheetRun (tasksOf s) run) (sheetRun (tasksOf s) (x .run)) (x .sheet-of) in
-    (x .undisturbed ∙ counts (run .p) (x .run .p) (run .path) (x .run .path) [] [] a b refl, x .disturbed ∙ counts (run .p) (x .run .p) (run .path) (x .run .path) (run .preemptions) (x .run .preemptions) a b c)
+of-the-run s h run u d l e =
+    let x = replayed s h (sheetOf s run) u d l e in
+    let (a, b, c) = sheet-same (sheetRun (tasksOf s) run) (sheetRun (tasksOf s) (x .run)) (x .sheet-of) in (
+      x .undisturbed ∙ counts (run .p) (x .run .p) (run .path) (x .run .path) [] [] a b refl,
+      x .disturbed ∙ counts (run .p) (x .run .p) (run .path) (x .run .path) (run .preemptions) (x .run .preemptions) a b c,
+      x .lost ∙ losses (run .p) (x .run .p) (run .path) (x .run .path) (run .preemptions) (x .run .preemptions) a b c,
+    )
   where
     counts : (p q : ℕ) (path other : List ℕ) (xs ys : List Preemption) → p ≡ q → path ≡ other → xs ≡ ys
         → countAtEnd (fileCache s) (tasksOf s) (task (tasksOf s) q) other ys ≡ countAtEnd (fileCache s) (tasksOf s) (task (tasksOf s) p) path xs
     counts p q path other xs ys a b c = rw (a, b, c)
+
+    losses : (p q : ℕ) (path other : List ℕ) (xs ys : List Preemption) → p ≡ q → path ≡ other → xs ≡ ys
+        → lostAtEnd (fileCache s) (tasksOf s) (task (tasksOf s) q) other ys ≡ lostAtEnd (fileCache s) (tasksOf s) (task (tasksOf s) p) path xs
+    losses p q path other xs ys a b c = rw (a, b, c)

@@ -1,4 +1,4 @@
--- Demand 3 over files and calls, with document 02, Point 1, as one claim about an accepted file. Definitions only.
+-- Demand 3 over files and calls, with document 02, Points 1 and 5, as one claim about an accepted file. Definitions only.
 use mathlib.Core.Path.{_≡_}
 use mathlib.Core.Logic.{_≢_}
 use mathlib.Core.List.{List}
@@ -7,8 +7,8 @@ use lib.ListN.{length, getD}
 use Rattle.cache.specs.References.{All}
 use Rattle.model.specs.Tasks.{Unmasked, task}
 use Rattle.model.specs.Numbers.{PairNumber}
-use Rattle.model.specs.Runs.{DisturbedRun, U, D}
-use Rattle.model.specs.Demand.{Demand3}
+use Rattle.model.specs.Runs.{DisturbedRun, U, D, lostHits}
+use Rattle.model.specs.Demand.{Demand3, BoundedApart}
 use Rattle.project.specs.declared.answers.Filling.the-variants.{Filled}
 use Rattle.project.specs.File.{File, taskCount}
 use Rattle.project.specs.Tasks.{tasksOf, filePair, fileCache}
@@ -29,7 +29,7 @@ TableEntries s =
 abbrev pub NumbersOfPaths : File → Type 0
 NumbersOfPaths s = (i j : ℕ) → PairNumber (fileCache s) (task (tasksOf s) i) (task (tasksOf s) j) (filePair s i j)
 
--- the sheet of a run, and the run's U and D in the file's cache
+-- the sheet of a run, and the run's U, D and lost hits in the file's cache
 abbrev pub sheetOf : (s : File) → DisturbedRun (tasksOf s) → Sheet
 sheetOf s run = runNumbers (tasksOf s) run
 
@@ -39,27 +39,35 @@ fileU s run = U (fileCache s) run
 abbrev pub fileD : (s : File) → DisturbedRun (tasksOf s) → ℕ
 fileD s run = D (fileCache s) run
 
--- "Where replay accepts a sheet of the run, U and D are its answers.": of the run that is given
+abbrev pub fileLost : (s : File) → DisturbedRun (tasksOf s) → ℕ
+fileLost s run = lostHits (fileCache s) run
+
+-- "Where replay accepts a sheet of the run, U and D are its answers.": of the run that is given; Point 5: "Replay adds a third number"
 abbrev pub ReplayAnswers : File → Type 0
-ReplayAnswers s = (run : DisturbedRun (tasksOf s)) (u d : ℕ) → replayingOf s (sheetOf s run) ≡ Counted u d → (u ≡ fileU s run) × (d ≡ fileD s run)
+ReplayAnswers s =
+    (run : DisturbedRun (tasksOf s)) (u d l : ℕ) → replayingOf s (sheetOf s run) ≡ Counted u d l → (u ≡ fileU s run) × (d ≡ fileD s run) × (l ≡ fileLost s run)
 
 -- every sheet that replay accepts is that of a disturbed run
 abbrev pub SheetsDescribe : File → Type 0
-SheetsDescribe s = (sheet : Sheet) (u d : ℕ) → replayingOf s sheet ≡ Counted u d → Replayed s sheet u d
+SheetsDescribe s = (sheet : Sheet) (u d l : ℕ) → replayingOf s sheet ≡ Counted u d l → Replayed s sheet u d l
 
 -- replay accepts the sheet of every disturbed run that a sheet can hold; the sheet is one of two-byte numbers
 abbrev pub RunsReplayed : File → Type 0
 RunsReplayed s =
     (run : DisturbedRun (tasksOf s)) → Fits (tasksOf s) run
-    → (replayingOf s (sheetOf s run) ≡ Counted (fileU s run) (fileD s run)) × All (λ (x : ℕ). x < 65536) (sheetOf s run)
+    → (replayingOf s (sheetOf s run) ≡ Counted (fileU s run) (fileD s run) (fileLost s run)) × All (λ (x : ℕ). x < 65536) (sheetOf s run)
 
 -- no block of the file is masked
 abbrev pub NoMasks : File → Type 0
 NoMasks s = (i b : ℕ) → b < length (task (tasksOf s) i) → Unmasked (task (tasksOf s) i) b
 
--- demand 3 whole, over an accepted file: for every disturbed run U <= D <= U + the sum of the pair numbers, and for every two different tasks, the
--- first with an unmasked block, a run with exactly one preemption that reaches its number (`Demand3`); the numbers are those over paths, the
--- table's entries are these numbers, and the replay's answers these U and D
+-- for a file of which no two tasks share a memory block: U <= D, and D is U and the lost hits, of every disturbed run
+abbrev pub RunsApart : File → Type 0
+RunsApart s = (run : DisturbedRun (tasksOf s)) → BoundedApart (fileCache s) (tasksOf s) run
+
+-- demand 3 whole, over an accepted file: for every disturbed run the lost hits are at most the sum of the pair numbers and D at most U + that sum, and
+-- for every two different tasks, the first with an unmasked block, a run with exactly one preemption whose lost hits are its number (`Demand3`); the
+-- numbers are those over paths, the table's entries are these numbers, and the replay's answers these U, D and lost hits
 pub record Demand3Whole (s : File) : Type 0 where
   pub runs : Demand3 (fileCache s) (tasksOf s)
   pub numbers : NumbersOfPaths s

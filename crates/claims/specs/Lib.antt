@@ -1,5 +1,6 @@
 pub mod Files
 pub mod Papers
 pub mod Demand
+pub mod OldTables
 pub mod Times
 pub mod CostliestRuns

@@ -1,24 +1,24 @@
--- The run that the trails of found rows join to costs the pair number: `joined-run`.
--- The idea: the trails are paths behind the rows, so that D of the run that they join to is U and what the rows have in common; this is the same
--- in rows of every width.
+-- The run that the trails of found rows join to loses as many hits as the pair number: `joined-run`.
+-- The idea: the trails are paths behind the rows, so that the lost hits of the run that they join to are what is useful and replaced in the rows; this is
+-- the same in rows of every width.
 use mathlib.Core.Path.{_≡_, refl, sym, ap, ap₂, subst, _∙_}
 use mathlib.Core.Logic.{_≢_}
 use mathlib.Core.Bool.{Bool, true, false, true≢false}
 use mathlib.Core.List.{List, [], _∷_, _++_}
 use Prim.Native.Nat.{ℕ, zero, suc, _+_, _*_, _-_, _≤_, _<_}
-use native.Mathlib.Nat.{add-zero}
 use native.Mathlib.Omega.{arith}
 use lib.ListN.{length, getD, drop, length-append}
 use Rattle.cache.specs.Cache.{Cache, emptyRow, withReferences, firstReferences}
-use Rattle.cache.specs.Sets.{usefulUsed}
+use Rattle.cache.specs.Sets.{usefulReplaced}
 use Rattle.model.specs.Tasks.{Task, Unmasked, SomeUnmasked, PathFrom, end, references, task, Rules}
-use Rattle.model.specs.Runs.{Preemption, DisturbedRun, countAtEnd}
+use Rattle.model.specs.Runs.{Preemption, DisturbedRun, ownHits, lostAtEnd}
 use Rattle.model.specs.Computed.{unmasked, pairNumber}
 use Rattle.model.proofs.Paths.{path-last, path-join, path-at}
 use Rattle.model.proofs.Most.{unmasked-exact, masked-zero}
 use Rattle.model.proofs.Width.{pair-width}
-use Rattle.model.proofs.Demand.{once, split-cost}
-use Rattle.runs.proofs.Widths.{count-width}
+use Rattle.model.proofs.RunEvents.{none-lost}
+use Rattle.model.proofs.Demand.{once, split-lost}
+use Rattle.runs.proofs.Widths.{lost-width}
 use Rattle.project.specs.declared.answers.Writing.the-variants.{Written}
 use Rattle.project.specs.File.{cacheBlocks, taskCount}
 use Rattle.project.specs.Reading.{readingOf}
@@ -64,9 +64,9 @@ module _ (s : List ℕ) (bytes : Bytes s) (ok : accepted (readingOf s) ≡ true)
   some-blocks : 0 < cacheBlocks s
   some-blocks = omega (arith, task-body s ok i hi .low)
 
-  -- counts and pair numbers are those of the file's cache
-  count-same : (path : List ℕ) (xs : List Preemption) → countAtEnd k ts (task ts i) path xs ≡ countAtEnd (fileCache s) ts (task ts i) path xs
-  count-same path xs = count-width (cacheBlocks s) w some-blocks room ts (task ts i) path xs
+  -- lost hits and pair numbers are those of the file's cache
+  lost-same : (path : List ℕ) (xs : List Preemption) → lostAtEnd k ts (task ts i) path xs ≡ lostAtEnd (fileCache s) ts (task ts i) path xs
+  lost-same path xs = lost-width (cacheBlocks s) w some-blocks room ts (task ts i) path xs
 
   pair-same : pairNumber k (task ts i) (task ts j) ≡ filePair s i j
   pair-same = pair-width (cacheBlocks s) w some-blocks room (task ts i) (task ts j)
@@ -89,7 +89,7 @@ module _ (s : List ℕ) (bytes : Bytes s) (ok : accepted (readingOf s) ≡ true)
       abbrev onceRun : DisturbedRun ts
       onceRun = once k ts rules i j (there i hi) (there j hj) ne path (length pre) (0 ∷ q) (refl, path-join (task ts i) to on) point-inside point-free (refl, by)
 
-      once-costliest : usefulUsed k (withReferences k (emptyRow k) (references (task ts i) (0 ∷ pre))) (firstReferences k (references (task ts i) post))
+      once-costliest : usefulReplaced k (withReferences k (emptyRow k) (references (task ts i) (0 ∷ pre))) (firstReferences k (references (task ts i) post))
           (withReferences k (emptyRow k) (references (task ts j) (0 ∷ q))) ≡ pairNumber k (task ts i) (task ts j) → Costliest s i j onceRun
       once-costliest e = record {
         preempted = refl;
@@ -97,9 +97,9 @@ module _ (s : List ℕ) (bytes : Bytes s) (ok : accepted (readingOf s) ≡ true)
         never = λ none. absurd (none (b, path-last (task ts i) to, free));
         fits = record { short = short; few = omega arith; each = (few, tt) };
         costs =
-            sym (count-same path (onceRun .preemptions))
-            ∙ split-cost k ts rules i j (there i hi) (there j hj) ne pre post (0 ∷ q) (refl, path-join (task ts i) to on) point-inside point-free (refl, by)
-            ∙ ap₂ (λ (u c : ℕ). u + c) (count-same path []) (e ∙ pair-same);
+            sym (lost-same path (onceRun .preemptions))
+            ∙ split-lost k ts rules i j (there i hi) (there j hj) ne pre post (0 ∷ q) (refl, path-join (task ts i) to on) point-inside point-free (refl, by)
+            ∙ (e ∙ pair-same);
       }
 
     -- not preempted, where all blocks are masked
@@ -112,9 +112,7 @@ module _ (s : List ℕ) (bytes : Bytes s) (ok : accepted (readingOf s) ≡ true)
       once = λ some. absurd (none some);
       never = λ m. refl;
       fits = record { short = short; few = omega arith; each = tt };
-      costs =
-          sym (add-zero (countAtEnd (fileCache s) ts (task ts i) path []))
-          ∙ ap (λ (c : ℕ). countAtEnd (fileCache s) ts (task ts i) path [] + c) (sym (masked-zero (fileCache s) (task ts i) (task ts j) none));
+      costs = none-lost (ownHits (fileCache s) ts (task ts i) path []) ∙ sym (masked-zero (fileCache s) (task ts i) (task ts j) none);
     }
 
   -- ---- the run of found rows
@@ -202,7 +200,7 @@ module _ (s : List ℕ) (bytes : Bytes s) (ok : accepted (readingOf s) ≡ true)
     point = omega (arith, to-long)
 
     makes-it : SomeUnmasked (task ts i)
-        → usefulUsed k (withReferences k (emptyRow k) (references (task ts i) (0 ∷ own-path .path))) (firstReferences k (references (task ts i) (way-on .path)))
+        → usefulReplaced k (withReferences k (emptyRow k) (references (task ts i) (0 ∷ own-path .path))) (firstReferences k (references (task ts i) (way-on .path)))
         (withReferences k (emptyRow k) (references (task ts j) (0 ∷ by-path .path)))
         ≡ pairNumber k (task ts i) (task ts j)
     makes-it some = rw (← (own-path .leaves), ← (way-on .refers), ← (by-path .leaves)) (makes .number some)

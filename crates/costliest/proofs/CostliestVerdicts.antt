@@ -1,5 +1,5 @@
 -- What the call answers is the verdict on its checks: `costliest-verdict`; and there is no other: `costliest-unique`.
--- The idea: 1, 18 and 19 compare numbers, 2 to 10 are those of the file, and of check 11 the two tasks' tests are left.
+-- The idea: 1, 18 and 19 compare numbers, 2 to 9 are those of the file, and of check 11 the two tasks' tests are left.
 use mathlib.Core.Path.{_≡_, refl, sym, ap, _∙_}
 use mathlib.Core.Logic.{_≢_, inl, inr, _↔_}
 use mathlib.Core.Bool.{Bool, true, false, not, _&&_, _||_, cond, true≢false, false≢true}
@@ -110,7 +110,7 @@ module _ (w : ℕ) (wide-enough : 16 ≤ w) (s : List ℕ) (h : Bytes s) (i j : 
     costliest-unique r v = verdict-unique (costliestChecks w s i j first second sheet) r (costliestCheck w s i j first second sheet) v costliest-verdict
 
     -- "18, .., after 10; 19, .., after 18; then 11 for the two"
-    pub costliest-order : numbers (costliestChecks w s i j first second sheet) ≡ 1 ∷ 2 ∷ 3 ∷ 4 ∷ 5 ∷ 6 ∷ 7 ∷ 8 ∷ 9 ∷ 10 ∷ 18 ∷ 19 ∷ 11 ∷ []
+    pub costliest-order : numbers (costliestChecks w s i j first second sheet) ≡ 1 ∷ 2 ∷ 3 ∷ 4 ∷ 5 ∷ 6 ∷ 7 ∷ 8 ∷ 9 ∷ 18 ∷ 19 ∷ 11 ∷ []
     costliest-order = refl
 
 -- ---- check 11 of the two, as the code makes it

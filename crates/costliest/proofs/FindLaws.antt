@@ -21,10 +21,9 @@ pub file-trails : (k : Cache) (s : List ℕ) (j : ℕ) → accepted (readingOf s
     → AreaTrails k (taskOf (decode body)) area reached lived to on full → AreaTrails k (task (tasksOf s) j) area reached lived to on full
 file-trails k s j ok inside body area reached lived to on full e h = subst (λ (t : Task). AreaTrails k t area reached lived to on full) (body-task s j (task-body s ok j inside) e) h
 
--- what is found in the parts of an area as the code cuts them, and among these used sets
-pub searched-parts : (w set blocks : ℕ) (reached lived : List ℕ) {rows rows′ live live′ used used′ : List ℕ} (r : Found) → rows ≡ rows′ → live ≡ live′ → used ≡ used′
-    → Searched set (heldRows w rows reached) (heldRows w live lived) used blocks r → Searched set (heldRows w rows′ reached) (heldRows w live′ lived) used′ blocks r
-searched-parts w set blocks reached lived {rows} {rows′} {live} {live′} {used} {used′} r er el eu h =
-    subst (λ (x : List ℕ). Searched set (heldRows w rows′ reached) (heldRows w live′ lived) x blocks r) eu
-    (subst (λ (x : List ℕ). Searched set (heldRows w rows′ reached) (heldRows w x lived) used blocks r) el
-    (subst (λ (x : List ℕ). Searched set (heldRows w x reached) (heldRows w live lived) used blocks r) er h))
+-- what is found in the parts of an area as the code cuts them, and among these end rows
+pub searched-parts : (w set blocks : ℕ) (reached lived : List ℕ) (fs : List (List ℕ)) {rows rows′ live live′ : List ℕ} (r : Found) → rows ≡ rows′ → live ≡ live′
+    → Searched set (heldRows w rows reached) (heldRows w live lived) fs blocks r → Searched set (heldRows w rows′ reached) (heldRows w live′ lived) fs blocks r
+searched-parts w set blocks reached lived fs {rows} {rows′} {live} {live′} r er el h =
+    subst (λ (x : List ℕ). Searched set (heldRows w rows′ reached) (heldRows w x lived) fs blocks r) el
+    (subst (λ (x : List ℕ). Searched set (heldRows w x reached) (heldRows w live lived) fs blocks r) er h)

@@ -2,7 +2,7 @@
 -- The idea: the states in the areas are those of the tasks, and since every block lies on a complete path, each has one of either kind.
 use mathlib.Core.Path.{_≡_, refl, sym, _∙_}
 use mathlib.Core.Bool.{true, false, false≢true}
-use mathlib.Core.List.{List, [], _∷_, map}
+use mathlib.Core.List.{List, [], _∷_}
 use Prim.Native.Nat.{ℕ, suc, _+_, _*_, _-_, _≤_, _<_}
 use native.Mathlib.Omega.{arith}
 use lib.ListN.{length, getD, take, drop}
@@ -27,7 +27,6 @@ use Rattle.rows.proofs.Parts.{rows-length, row-within, part-of-part}
 use Rattle.gather.specs.Memory.{heldRows}
 use Rattle.gather.specs.Gathered.{GatheredRows}
 use Rattle.graphs.proofs.Gathered.{held-sorted}
-use Rattle.pairs.specs.Pairs.{usedSet}
 use Rattle.task_trails.specs.TaskTrails.{AreaTrails}
 use Rattle.search.specs.declared.Found.{Found}
 use Rattle.search.specs.Search.{Searched}
@@ -67,7 +66,7 @@ module _ (k : Cache) (ts : List Task) (rules : Rules ts) (i j : ℕ) (hi : i < l
 
   pub found-makes : {set : ℕ} → set ≡ unmaskedSet (task ts i) → (x : Found)
       → Searched set (heldRows (k .width) (take (kindLength (k .width)) area) reached) (heldRows (k .width) (take (kindLength (k .width)) (drop (kindLength (k .width)) area)) lived)
-      (map usedSet (heldRows (k .width) (take (kindLength (k .width)) others) ended (end (task ts j)))) (length (task ts i)) x
+      (heldRows (k .width) (take (kindLength (k .width)) others) ended (end (task ts j))) (length (task ts i)) x
       → MakesNumber k (task ts i) (task ts j) (heldRows (k .width) (take (kindLength (k .width)) area) reached)
       (heldRows (k .width) (take (kindLength (k .width)) (drop (kindLength (k .width)) area)) lived) (heldRows (k .width) (take (kindLength (k .width)) others) ended (end (task ts j))) x
   found-makes {set} marked x searched =
@@ -95,7 +94,7 @@ module _ (s : List ℕ) (bytes : Bytes s) (ok : accepted (readingOf s) ≡ true)
       → AreaTrails (fileCacheIn w s) (task (tasksOf s) j) others ended lived-j to-j on-j false → {set blocks end-block : ℕ} {part : List ℕ} → set ≡ unmaskedSet (task (tasksOf s) i)
       → blocks ≡ length (task (tasksOf s) i) → end-block ≡ end (task (tasksOf s) j) → part ≡ take (32 * w) (drop (32 * w * end-block) others) → (x : Found)
       → Searched set (heldRows w (take (kindLength w) area) reached) (heldRows w (take (kindLength w) (drop (kindLength w) area)) lived)
-      (map usedSet (rowsOf w (getD ended end-block 0) part)) blocks x
+      (rowsOf w (getD ended end-block 0) part) blocks x
       → MakesNumber (fileCacheIn w s) (task (tasksOf s) i) (task (tasksOf s) j) (heldRows w (take (kindLength w) area) reached)
       (heldRows w (take (kindLength w) (drop (kindLength w) area)) lived) (heldRows w (take (kindLength w) others) ended (end (task (tasksOf s) j))) x
   file-found {area = area} {reached = reached} {lived = lived} {others = others} {ended = ended} own other {set} {blocks} {end-block = e} {part} marked counted ends cut x searched =
@@ -104,7 +103,7 @@ module _ (s : List ℕ) (bytes : Bytes s) (ok : accepted (readingOf s) ≡ true)
       let some = task-bounds s j ok hj .some in
       let rows : part ≡ partOf w (take (kindLength w) others) e = cut ∙ end-part w e others (omega (arith, few, some, ends)) in
       let found : Searched set (heldRows w (take (kindLength w) area) reached) (heldRows w (take (kindLength w) (drop (kindLength w) area)) lived)
-      (map usedSet (heldRows w (take (kindLength w) others) ended (end (task (tasksOf s) j)))) (length (task (tasksOf s) i)) x
+      (heldRows w (take (kindLength w) others) ended (end (task (tasksOf s) j))) (length (task (tasksOf s) i)) x
       = rw (rows, ends, counted) at searched in
       found-makes (fileCacheIn w s) (tasksOf s) rules i j (rw (tasks-long s) hi) (rw (tasks-long s) hj) (task-bounds s i ok hi .few) few own other marked x found
 

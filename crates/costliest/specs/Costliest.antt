@@ -1,4 +1,4 @@
--- Document 02, Point 3, "Show me the run that costs most.": Costliest run, its checks and its answer, for rows of w places. Definitions only.
+-- Document 02, Point 3, "Show me the run that costs most.", and Point 5: Costliest run, its checks and its answer, for rows of w places. Definitions only.
 use mathlib.Core.Path.{_≡_}
 use mathlib.Core.Logic.{_≢_, _⊎_}
 use mathlib.Core.Bool.{Bool, not, _&&_, _||_, cond}
@@ -8,7 +8,7 @@ use lib.Dec.{eqb, leb, ltb}
 use lib.ListN.{length, drop}
 use Rattle.model.specs.Tasks.{SomeUnmasked, task}
 use Rattle.model.specs.States.{Fault11}
-use Rattle.model.specs.Runs.{DisturbedRun, OnceBy, U, D}
+use Rattle.model.specs.Runs.{DisturbedRun, OnceBy, lostHits}
 use Rattle.project.specs.declared.answers.Check.{Check}
 use Rattle.project.specs.declared.answers.Check.the-variants.{Passed}
 use Rattle.project.specs.declared.answers.Check.the-variants.{Refused as Failed}
@@ -57,7 +57,7 @@ twoTests w s i j = forTwo i j 0 (map (test11 (fileCacheIn w s)) (tasksOf s))
 abbrev pub FaultOfTwo : File → ℕ → ℕ → ℕ → Type 0
 FaultOfTwo s i j a = ((a ≡ i) ⊎ (a ≡ j)) × Of (Fault11 (fileCache s)) [] (tasksOf s) a
 
--- "Checks: 18, .., after 10; 19, .., after 18", in a file of t tasks
+-- "Checks: 18, .., after 10; 19, .., after 18", in a file of t tasks; by Point 5 10 "is never given any more"
 abbrev pub askedChecks : ℕ → ℕ → ℕ → Sheet → List Entry
 askedChecks t i j sheet = one 18 noTask (test18 t i j) (Fault18 t i j) ∷ one 19 noTask (test19 sheet) (Fault19 sheet) ∷ []
 
@@ -79,14 +79,15 @@ costliestCheck w s i j first second sheet = verdictOf (costliestChecks w s i j f
 
 -- ---- the run
 
--- "For two tasks, write a run sheet with one preemption whose D - U is their pair number."; "If the preempted task has no unmasked block the
--- sheet has no preemption."; the run is one that a sheet can hold
+-- "For two tasks, write a run sheet with one preemption whose D - U is their pair number.", where Point 5 puts the lost hits in place of D - U: "That
+-- number is what a pair number .. reaches for one preemption, in the sheet of Point 3 too"; "If the preempted task has no unmasked block the sheet has
+-- no preemption."; the run is one that a sheet can hold
 pub record Costliest (s : File) (i j : ℕ) (run : DisturbedRun (tasksOf s)) : Type 0 where
   pub preempted : run .p ≡ i
   pub once : SomeUnmasked (task (tasksOf s) i) → OnceBy j (run .preemptions)
   pub never : (SomeUnmasked (task (tasksOf s) i) → ⊥) → run .preemptions ≡ []
   pub fits : Fits (tasksOf s) run
-  pub costs : D (fileCache s) run ≡ U (fileCache s) run + filePair s i j
+  pub costs : lostHits (fileCache s) run ≡ filePair s i j
 
 -- "Which such run is written is left free; its length is answered, and places after it keep their contents."; it never has more than 2,310 numbers
 pub record WrittenRun (s : File) (i j : ℕ) (old : Sheet) (answer : Writing) (new : Sheet) : Type 0 where

@@ -1,7 +1,6 @@
 // The states of two tasks with their trails, and the rows among them that make the pair number.
 ghost use mathlib.Core.Path.{_≡_};
 ghost use mathlib.Core.Bool.{true};
-ghost use mathlib.Core.List.{map};
 ghost use Prim.Native.Nat.{_*_, _≤_, _<_};
 ghost use lib.ListN.{length, take, drop};
 ghost use Rattle.cache.specs.Shape.{shaped, Holds};
@@ -12,13 +11,11 @@ ghost use Rattle.project.specs.File.{taskCount};
 ghost use Rattle.project.specs.Reading.{readingOf};
 ghost use Rattle.project.specs.Bodies.{accepted};
 ghost use Rattle.project.specs.Tasks.{tasksOf, fileShape};
-ghost use Rattle.pairs.specs.Pairs.{usedSet};
 ghost use Rattle.task_trails.specs.TaskTrails.{AreaTrails};
 ghost use Rattle.search.specs.Search.{Searched};
 use cache::blocks::CacheShape;
 use reader::task_body;
 use search::Found;
-use search::end_sets;
 use search::search;
 use task_trails::task_trails;
 
@@ -67,8 +64,8 @@ pub fn find_trails(
     }
 }
 
-// The block of a task among the unmasked ones, the reaching and the live row of it in a work area, and the end row of another task that have most in
-// common; which of several is left open. `ends` begins with the `ended` rows of the other task's end block.
+// The block of a task among the unmasked ones, the reaching and the live row of it in a work area, and the end row of another task that cost most; which
+// of several is left open. `ends` begins with the `ended` rows of the other task's end block.
 pub fn find_rows(
     w: usize,
     blocks: usize,
@@ -82,10 +79,8 @@ pub fn find_rows(
     requires { ⌜ (blocks ≤ 24) × (length (now area) ≡ areaLength w) × Memory w (take (kindLength w) (now area)) reached
         × Memory w (take (kindLength w) (drop (kindLength w) (now area))) lived × (length (now ends) ≡ 32 * w) × (ended ≤ 32) ⌝ }
     ensures { λ r. ⌜ Searched unmasked (heldRows w (take (kindLength w) (now (area .entry))) reached)
-        (heldRows w (take (kindLength w) (drop (kindLength w) (now (area .entry)))) lived) (map usedSet (rowsOf w ended (now (ends .entry)))) blocks r ⌝ }
+        (heldRows w (take (kindLength w) (drop (kindLength w) (now (area .entry)))) lived) (rowsOf w ended (now (ends .entry))) blocks r ⌝ }
 {
-    let mut sets = [0u32; 32];
-    end_sets(ends, ended, w, &mut sets);
     let kind = 24 * (32 * w);
     search(
         w,
@@ -95,6 +90,7 @@ pub fn find_rows(
         &reached,
         &area[kind..kind + kind],
         &lived,
-        &sets[0..ended],
+        ends,
+        ended,
     )
 }

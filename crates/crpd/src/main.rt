@@ -51,7 +51,7 @@ fn complain(text: &[u8]) {
     io::write_all(STDERR_FILENO, text);
 }
 
-// Writes when a check of a file fails. Check 1 is about lists, and 12 to 15 belong to other calls, so none of them comes here.
+// Writes when a check of a file fails. Check 1 is about lists, 10 is never given, and those from 12 on belong to other calls.
 fn complain_of_check(check: u8) {
     match check {
         2 => complain(b"the file has under 8 or over 7,544 bytes"),
@@ -62,7 +62,6 @@ fn complain_of_check(check: u8) {
         7 => complain(b"an offset or a length in the contents is wrong"),
         8 => complain(b"a body breaks its layout"),
         9 => complain(b"a block is on no complete path"),
-        10 => complain(b"a memory block is shared with an earlier task"),
         11 => complain(b"a block has 33 or more reaching or live states"),
         _ => {}
     }

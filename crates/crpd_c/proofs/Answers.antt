@@ -22,6 +22,10 @@ pub three-set : (l : List ℕ) (v w x : ℕ) → length l ≡ 3 → set (set (se
 three-set [] v w x e = absurd (omega arith)
 three-set (y ∷ l) v w x e = ap (λ (z : List ℕ). v ∷ z) (two-set l w x (omega arith))
 
+pub four-set : (l : List ℕ) (v w x y : ℕ) → length l ≡ 4 → set (set (set (set l 0 v) 1 w) 2 x) 3 y ≡ v ∷ w ∷ x ∷ y ∷ []
+four-set [] v w x y e = absurd (omega arith)
+four-set (z ∷ l) v w x y e = ap (λ (k : List ℕ). v ∷ k) (three-set l w x y (omega arith))
+
 -- a list of another length: the answer is 1, and nothing is written
 pub wrong : (k : ℕ) (answer : List ℕ) → (length answer ≡ k → ⊥) → places k answer ≡ false
 wrong k answer h = ne-eqb (length answer) k h

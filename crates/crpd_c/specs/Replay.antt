@@ -11,16 +11,16 @@ use Rattle.crpd_c.specs.Status.{places}
 
 -- 0 for a sheet that is accepted; a refusal as document 01's number
 abbrev pub statusOfReplaying : Replaying → ℕ
-statusOfReplaying (Counted u d) = 0
+statusOfReplaying (Counted u d l) = 0
 statusOfReplaying (Refused c a) = c
 
--- the task named, or 255; U and D, 0 and 0 after a refusal
+-- the task named, or 255; U, D and the lost hits, 0 each after a refusal
 abbrev pub numbersOfReplaying : Replaying → List ℕ
-numbersOfReplaying (Counted u d) = 255 ∷ u ∷ d ∷ []
-numbersOfReplaying (Refused c a) = a ∷ 0 ∷ 0 ∷ []
+numbersOfReplaying (Counted u d l) = 255 ∷ u ∷ d ∷ l ∷ []
+numbersOfReplaying (Refused c a) = a ∷ 0 ∷ 0 ∷ 0 ∷ []
 
 abbrev pub replayStatus : File → Sheet → List ℕ → ℕ
-replayStatus s sheet answer = cond (places 3 answer) (statusOfReplaying (replayingOf s sheet)) 1
+replayStatus s sheet answer = cond (places 4 answer) (statusOfReplaying (replayingOf s sheet)) 1
 
 abbrev pub replayLeft : File → Sheet → List ℕ → List ℕ
-replayLeft s sheet answer = cond (places 3 answer) (numbersOfReplaying (replayingOf s sheet)) answer
+replayLeft s sheet answer = cond (places 4 answer) (numbersOfReplaying (replayingOf s sheet)) answer

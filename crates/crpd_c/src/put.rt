@@ -31,3 +31,14 @@ pub fn put_words(list: &mut [u32], first: u32, second: u32, third: u32)
     list[1] = second;
     list[2] = third;
 }
+
+// Four words.
+pub fn put_four(list: &mut [u32], first: u32, second: u32, third: u32, fourth: u32)
+    requires { ⌜ length (now list) ≡ 4 ⌝ }
+    ensures { λ _. ⌜ now (list .exit) ≡ first ∷ second ∷ third ∷ fourth ∷ [] ⌝ }
+{
+    list[0] = first;
+    list[1] = second;
+    list[2] = third;
+    list[3] = fourth;
+}

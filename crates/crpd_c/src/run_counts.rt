@@ -1,32 +1,33 @@
 // Replay for C.
 ghost use mathlib.Core.Path.{_≡_};
 ghost use Rattle.crpd_c.specs.Replay.{replayStatus, replayLeft};
-use crate::put::put_words;
+use crate::put::put_four;
 use cache::numbers::byte_word;
 use project::answers::NO_TASK;
 use replay::Replaying;
 use replay::replay;
 
-// Replay: 0, or the check that fails first; `answer` gets the task that it names (255 if none), U and D (0 and 0 after a refusal).
-// An `answer` that has not three places gives 1 and is left as it was.
+// Replay: 0, or the check that fails first; `answer` gets the task that it names (255 if none), U, D and the lost hits (0 each after a refusal).
+// An `answer` that has not four places gives 1 and is left as it was.
 #[no_mangle]
 pub extern "C" fn crpd_replay(file: &[u8], sheet: &[u16], answer: &mut [u32]) -> u8
     ensures { λ r. ⌜ (r ≡ replayStatus (now (file .entry)) (now (sheet .entry)) (now (answer .entry)))
         × (now (answer .exit) ≡ replayLeft (now (file .entry)) (now (sheet .entry)) (now (answer .entry))) ⌝ }
 {
-    if answer.len() != 3 {
+    if answer.len() != 4 {
         return 1;
     }
     match replay(file, sheet) {
         Replaying::Counted {
             undisturbed,
             disturbed,
+            lost,
         } => {
-            put_words(answer, NO_TASK as u32, undisturbed, disturbed);
+            put_four(answer, NO_TASK as u32, undisturbed, disturbed, lost);
             0
         }
         Replaying::Refused { check, task } => {
-            put_words(answer, byte_word(task), 0, 0);
+            put_four(answer, byte_word(task), 0, 0, 0);
             check
         }
     }

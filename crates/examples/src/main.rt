@@ -1,8 +1,13 @@
-// Runs document 01's examples of project files, and those of document 02, Points 1 and 3, and prints what each call answers.
+// Runs document 01's examples of project files, and those of document 02, Points 1, 3 and 5, and prints what each call answers.
+ghost use mathlib.Core.Path.{_≡_};
 ghost use Prim.Native.Nat.{_≤_, _<_};
+ghost use lib.ListN.{length};
 use example_files::APART;
 use example_files::E;
 use example_files::MASKED;
+use example_files::SHARED_BOTH;
+use example_files::SHARED_GAIN;
+use example_files::SHARED_SAME;
 use example_files::with_byte;
 use libc::STDOUT_FILENO;
 use project::answers::Filling;
@@ -63,7 +68,7 @@ fn show_heads() {
     show_changed(b"E, byte 7 = 01", 7, 0x01);
 }
 
-// Files that the checks of contents and bodies refuse.
+// Files that the checks of contents and bodies refuse, and two that they accept.
 fn show_bodies() {
     show_changed(b"E, byte 8 = 11", 8, 0x11);
     show_reading(b"E without its last byte", &E[0..32]);
@@ -72,7 +77,7 @@ fn show_bodies() {
     show_changed(b"E, byte 18 = 01: a masked block", 18, 0x01);
     show_changed(b"E, byte 18 = 02", 18, 0x02);
     show_reading(b"two blocks, no successors", &APART);
-    show_changed(b"E, byte 31 = 00", 31, 0x00);
+    show_changed(b"E, byte 31 = 00: a shared memory block", 31, 0x00);
 }
 
 // Where the body of a task of E stands, and how long it is.
@@ -101,13 +106,16 @@ fn show_writing(name: &[u8], n: u8, bodies: &[u8], lengths: &[usize], room: usiz
     }
 }
 
-// Whether E written again from its n and its bodies is E.
-fn show_same() {
+// Whether a file with E's n and contents, written again from its bodies, is that file.
+fn show_same(name: &[u8], file: &[u8])
+    requires { ⌜ length (now file) ≡ 33 ⌝ }
+{
     let lengths = [10usize, 7];
     let mut out = [0u8; 33];
-    writer::write(2, &E[16..33], &lengths, &mut out);
-    if check::same(&out, &E) {
-        print(b"E again: the same bytes\n");
+    writer::write(2, &file[16..33], &lengths, &mut out);
+    print(name);
+    if check::same(&out, file) {
+        print(b" again: the same bytes\n");
     }
 }
 
@@ -184,8 +192,11 @@ fn show_replay_on(file_name: &[u8], file: &[u8], name: &[u8], sheet: &[u16]) {
         Replaying::Counted {
             undisturbed,
             disturbed,
+            lost,
         } => {
-            print_numbers(b": U = ", undisturbed as u64, b", D = ", disturbed as u64);
+            print(b": U = ");
+            print_number(undisturbed as u64);
+            print_numbers(b", D = ", disturbed as u64, b", lost hits = ", lost as u64);
         }
         Replaying::Refused { check, task } => {
             print_refusal(check, task);
@@ -299,13 +310,48 @@ fn show_masked_block() {
     );
 }
 
+// Runs of tasks that share a memory block: it stays in the cache, is loaded by the preempting task first, or another is lost.
+fn show_shared() {
+    show_replay_on(
+        b"E with byte 31 = 00",
+        &with_byte(31, 0x00),
+        b"0, 2, 0, 0, 1, 0, 1, 1, 0",
+        &[0, 2, 0, 0, 1, 0, 1, 1, 0],
+    );
+    show_replay_on(
+        b"a loop over the shared memory block",
+        &SHARED_SAME,
+        b"0, 2, 0, 0, 1, 0, 1, 1, 0",
+        &[0, 2, 0, 0, 1, 0, 1, 1, 0],
+    );
+    show_replay_on(
+        b"an empty block, then a shared one,",
+        &SHARED_GAIN,
+        b"0, 2, 0, 1, 1, 0, 1, 1, 0",
+        &[0, 2, 0, 1, 1, 0, 1, 1, 0],
+    );
+    show_replay_on(
+        b"one of two memory blocks shared",
+        &SHARED_BOTH,
+        b"0, 2, 0, 1, 1, 0, 1, 1, 0",
+        &[0, 2, 0, 1, 1, 0, 1, 1, 0],
+    );
+    show_replay_on(
+        b"one of two memory blocks shared",
+        &SHARED_BOTH,
+        b"0, 2, 0, 1, 1, 1, 1, 1, 0",
+        &[0, 2, 0, 1, 1, 1, 1, 1, 0],
+    );
+}
+
 fn main() {
     show_heads();
     show_bodies();
     show_place(0);
     show_place(1);
     show_place(2);
-    show_same();
+    show_same(b"E", &E);
+    show_same(b"E with byte 31 = 00", &with_byte(31, 0x00));
     show_writings();
     show_fillings();
     show_replays();
@@ -314,4 +360,5 @@ fn main() {
     show_paths();
     show_masked_task();
     show_masked_block();
+    show_shared();
 }

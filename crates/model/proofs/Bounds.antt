@@ -1,6 +1,7 @@
--- U <= D <= U + the sum of the pair numbers, for the whole list of preemptions of a disturbed run: `bounded`.
+-- The lost hits are at most the sum of the pair numbers, and D at most U + that sum, for the whole list of preemptions of a disturbed run:
+-- `bounded`. For tasks that share nothing, U <= D and D = U + the lost hits: `bounded-apart`.
 -- The idea: at each preemption the undisturbed row is a reaching state, the references to come give a live state, and the foreign
--- row is an end row; so what the preemption costs is at most the pair number, and the event lemmas bound D by the costs.
+-- row is an end row; so what the preemption costs is at most the pair number, and the event lemmas bound the lost hits and D by the costs.
 use mathlib.Core.Path.{_≡_, refl, sym, ap, _∙_}
 use mathlib.Core.Logic.{_≢_}
 use mathlib.Core.Bool.{Bool, true, false, cond}
@@ -14,24 +15,24 @@ use borrow.Author.Tests.{eqb-true}
 use Rattle.cache.specs.References.{Real, All}
 use Rattle.cache.specs.Cache.{Cache, emptyRow, withReferences, misses}
 use Rattle.cache.specs.Firsts.{firstsOver}
-use Rattle.cache.specs.Sets.{usefulUsed}
+use Rattle.cache.specs.Sets.{usefulReplaced}
 use Rattle.cache.proofs.Rows.{length-emptyRow, firstReferences-fold}
 use Rattle.model.specs.Lists.{mem, Each}
-use Rattle.model.specs.Tasks.{Block, Task, block, Unmasked, end, PathFrom, stay, step, Complete, references, memoryBlocks, task, Rules}
+use Rattle.model.specs.Tasks.{Block, Task, block, Unmasked, end, PathFrom, stay, step, Complete, references, memoryBlocks, task, Apart, Rules}
 use Rattle.model.specs.States.{Reaches, Lives}
 use Rattle.model.specs.Numbers.{Count, Rows, Most}
-use Rattle.model.specs.Runs.{Preemption, Preempts, DisturbedRun, withPoint, U, D}
+use Rattle.model.specs.Runs.{Preemption, Preempts, DisturbedRun, withPoint, U, D, lostHits}
 use Rattle.model.specs.Computed.{unmasked, most}
-use Rattle.model.specs.Demand.{pairSum, Bounded}
+use Rattle.model.specs.Demand.{pairSum, Bounded, BoundedApart}
 use Rattle.model.proofs.Membership.{all-in, all-of}
 use Rattle.model.proofs.Universe.{references-in}
 use Rattle.model.proofs.Paths.{path-first, references-each}
 use Rattle.model.proofs.Exact.{reaches-on, reaches-first, reaches-end}
 use Rattle.model.proofs.Most.{unmasked-most}
-use Rattle.model.proofs.Events.{Event, Ref, Preempt, own, refs, total, Parts, Apart}
-use Rattle.model.proofs.Lost.{total-refs}
-use Rattle.model.proofs.Disjoint.{lower, upper-used}
-use Rattle.model.proofs.RunEvents.{preempts, runEvents, count-events, own-preempts, own-run, undisturbed, weigh, weighAt, weighAt-le}
+use Rattle.model.proofs.Events.{Event, Ref, Preempt, own, refs, disturbed, lost, total, Parts, Clean, EventsApart}
+use Rattle.model.proofs.Lost.{total-refs, lost-same, upper-same}
+use Rattle.model.proofs.Disjoint.{disturbed-lost}
+use Rattle.model.proofs.RunEvents.{preempts, runEvents, count-events, own-preempts, own-run, undisturbed, lost-events, weigh, weighAt, weighAt-le}
 
 each-withPoint : (P : Preemption → Type 0) (i : ℕ) (xs : List Preemption) → Each P xs → Each P (withPoint i xs)
 each-withPoint P i [] h = tt
@@ -136,44 +137,66 @@ module _ (ts : List Task) (p : ℕ) (P Q : ℕ → Type 0) (own-P : (b m : ℕ) 
       (parts-preempts path (withPoint i xs) (runEvents ts (task ts p) xs (suc i) q) (each-withPoint (Preempts ts p path) i xs h) (parts-run path xs h q (suc i)))
 
 module _ (ts : List Task) (ok : Rules ts) (p : ℕ) where
-  abbrev pub mine : ℕ → Bool
-  mine m = mem eqb m (memoryBlocks (task ts p))
+  real-at : (j b m : ℕ) → mem eqb m (block (task ts j) b .references) ≡ true → Real m
+  real-at j b m e = all-of Real (memoryBlocks (task ts j)) (ok .real j) m (references-in (task ts j) b m e)
 
-  foreign : (j : ℕ) → j ≢ p → (m : ℕ) → mem eqb m (memoryBlocks (task ts j)) ≡ true → mine m ≡ false
-  foreign j n m e = go (mine m) refl
-    where
-      go : (s : Bool) → mine m ≡ s → s ≡ false
-      go true q = absurd (ok .apart j p n (m, e, q))
-      go false q = refl
+  -- no reference is the mark for nothing
+  pub clean-run : (path : List ℕ) (xs : List Preemption) → Each (Preempts ts p path) xs → Clean (runEvents ts (task ts p) xs 0 path)
+  clean-run path xs h = parts-run ts p Real Real (real-at p) (λ j n. real-at j) path xs h path 0
 
-  -- own references are the task's memory blocks, and no foreign reference is
-  pub apart-run : (path : List ℕ) (xs : List Preemption) → Each (Preempts ts p path) xs → Apart mine (runEvents ts (task ts p) xs 0 path)
-  apart-run path xs h =
-      parts-run ts p (λ m. (mine m ≡ true) × Real m) (λ f. (mine f ≡ false) × Real f)
-      (λ b m e. let i = references-in (task ts p) b m e in (i, all-of Real (memoryBlocks (task ts p)) (ok .real p) m i))
-      (λ j n b m e. let i = references-in (task ts j) b m e in (foreign j n m i, all-of Real (memoryBlocks (task ts j)) (ok .real j) m i))
-      path xs h path 0
+  module _ (apart : Apart ts) where
+    abbrev pub mine : ℕ → Bool
+    mine m = mem eqb m (memoryBlocks (task ts p))
+
+    foreign : (j : ℕ) → j ≢ p → (m : ℕ) → mem eqb m (memoryBlocks (task ts j)) ≡ true → mine m ≡ false
+    foreign j n m e = go (mine m) refl
+      where
+        go : (s : Bool) → mine m ≡ s → s ≡ false
+        go true q = absurd (apart j p n (m, e, q))
+        go false q = refl
+
+    -- own references are the task's memory blocks, and no foreign reference is
+    pub apart-run : (path : List ℕ) (xs : List Preemption) → Each (Preempts ts p path) xs → EventsApart mine (runEvents ts (task ts p) xs 0 path)
+    apart-run path xs h =
+        parts-run ts p (λ m. (mine m ≡ true) × Real m) (λ f. (mine f ≡ false) × Real f)
+        (λ b m e. (references-in (task ts p) b m e, real-at p b m e))
+        (λ j n b m e. (foreign j n m (references-in (task ts j) b m e), real-at j b m e))
+        path xs h path 0
 
 -- ---- the bounds
 
-sum-weigh : (k : Cache) (ts : List Task) (p : ℕ) (xs : List Preemption) → weigh (number (usefulUsed k) k ts p) xs ≡ pairSum k ts p xs
+sum-weigh : (k : Cache) (ts : List Task) (p : ℕ) (xs : List Preemption) → weigh (number (usefulReplaced k) k ts p) xs ≡ pairSum k ts p xs
 sum-weigh k ts p [] = refl
 sum-weigh k ts p (x ∷ xs) = omega (arith, sum-weigh k ts p xs)
 
-pub bounded : (k : Cache) (ts : List Task) → Rules ts → (r : DisturbedRun ts) → Bounded k ts r
-bounded k ts ok r =
-    let t = task ts (r .p) in
-    let es = runEvents ts t (r .preemptions) 0 (r .path) in
-    let u = undisturbed k ts t (r .path) ∙ sym (ap (misses k (emptyRow k)) (own-run ts t (r .preemptions) 0 (r .path))) in
-    let d = count-events k ts t (r .path) (r .preemptions) in
-    let a = apart-run ts ok (r .p) (r .path) (r .preemptions) (r .each) in (
-      omega (arith, u, d, lower k (mine ts ok (r .p)) es (emptyRow k) (length-emptyRow k) a),
-      omega (
-        arith,
-        u,
-        d,
-        upper-used k (mine ts ok (r .p)) es (emptyRow k) (length-emptyRow k) a,
-        total-le (usefulUsed k) k ts (r .p) (r .path) (r .preemptions) (r .each) (r .complete),
-        sum-weigh k ts (r .p) (r .preemptions),
-      ),
-    )
+module _ (k : Cache) (ts : List Task) (ok : Rules ts) (r : DisturbedRun ts) where
+  abbrev runs : Task
+  runs = task ts (r .p)
+
+  abbrev events : List Event
+  events = runEvents ts runs (r .preemptions) 0 (r .path)
+
+  is-U : U k r ≡ misses k (emptyRow k) (own events)
+  is-U = undisturbed k ts runs (r .path) ∙ sym (ap (misses k (emptyRow k)) (own-run ts runs (r .preemptions) 0 (r .path)))
+
+  is-D : D k r ≡ disturbed k (emptyRow k) events
+  is-D = count-events k ts runs (r .path) (r .preemptions)
+
+  is-lost : lostHits k r ≡ lost k (emptyRow k) (emptyRow k) events
+  is-lost = lost-events k ts runs (r .path) (r .preemptions)
+
+  costs-le : total (usefulReplaced k) k (emptyRow k) events ≤ pairSum k ts (r .p) (r .preemptions)
+  costs-le = omega (arith, total-le (usefulReplaced k) k ts (r .p) (r .path) (r .preemptions) (r .each) (r .complete), sum-weigh k ts (r .p) (r .preemptions))
+
+  pub bounded : Bounded k ts r
+  bounded =
+      let clean = clean-run ts ok (r .p) (r .path) (r .preemptions) (r .each) in
+      record {
+        lost = omega (arith, is-lost, lost-same k events (emptyRow k) (length-emptyRow k) clean, costs-le);
+        upper = omega (arith, is-U, is-D, upper-same k events (emptyRow k) (length-emptyRow k) clean, costs-le);
+      }
+
+  pub bounded-apart : Apart ts → BoundedApart k ts r
+  bounded-apart apart =
+      let e = disturbed-lost k (mine ts ok (r .p) apart) events (emptyRow k) (length-emptyRow k) (apart-run ts ok (r .p) apart (r .path) (r .preemptions) (r .each)) in
+      record { lower = omega (arith, is-U, is-D, e); equal = omega (arith, is-U, is-D, is-lost, e) }

@@ -3,27 +3,27 @@
 use mathlib.Core.Path.{_≡_, refl, sym, ap, _∙_}
 use mathlib.Core.Logic.{_≢_, _⊎_, inl, inr}
 use mathlib.Core.List.{List, [], _∷_, _++_}
-use Prim.Native.Nat.{ℕ, suc, _+_, _<_}
+use Prim.Native.Nat.{ℕ, suc, _<_}
 use native.Mathlib.Nat.{zero-add}
 use native.Mathlib.Omega.{arith}
 use lib.ListN.{length, getD, length-append}
 use Rattle.cache.specs.Cache.{Cache, emptyRow, withReferences, firstReferences}
-use Rattle.cache.specs.Sets.{usefulUsed}
+use Rattle.cache.specs.Sets.{usefulReplaced}
 use Rattle.cache.proofs.Rows.{length-emptyRow, firstReferences-fold}
 use Rattle.model.specs.Lists.{Each}
 use Rattle.model.specs.Tasks.{Block, Task, Unmasked, SomeUnmasked, PathFrom, Complete, OnCompletePath, references, task, Rules}
 use Rattle.model.specs.Numbers.{Rows, counted, Most}
-use Rattle.model.specs.Runs.{Preemption, Preempts, DisturbedRun, U, D}
+use Rattle.model.specs.Runs.{Preemption, Preempts, DisturbedRun, lostHits}
 use Rattle.model.specs.Computed.{pairNumber}
 use Rattle.model.specs.Demand.{Reached, NonePreempted, Demand3}
-use Rattle.model.proofs.Paths.{path-join, path-at, complete-inside, references-join}
+use Rattle.model.proofs.Paths.{path-join, path-at, complete-inside}
 use Rattle.model.proofs.Exact.{reaches-end}
 use Rattle.model.proofs.OnPath.{to-and-from}
 use Rattle.model.proofs.Most.{pair-is, masked-zero}
-use Rattle.model.proofs.Events.{Event, Preempt, refs, disturbed, Apart}
-use Rattle.model.proofs.Disjoint.{exact-at}
-use Rattle.model.proofs.RunEvents.{count-events, undisturbed, run-once}
-use Rattle.model.proofs.Bounds.{bounded, mine, apart-run}
+use Rattle.model.proofs.Events.{Event, Preempt, refs, lost, Clean}
+use Rattle.model.proofs.Lost.{lost-once}
+use Rattle.model.proofs.RunEvents.{lost-events, run-once}
+use Rattle.model.proofs.Bounds.{bounded, clean-run}
 
 module _ (k : Cache) (ts : List Task) (ok : Rules ts) (i j : ℕ) (hi : i < length ts) (hj : j < length ts) (ne : j ≢ i) where
   -- the run of i with one preemption by j at a point of its path
@@ -40,7 +40,7 @@ module _ (k : Cache) (ts : List Task) (ok : Rules ts) (i j : ℕ) (hi : i < leng
   }
 
   reached-by : (path : List ℕ) (point : ℕ) (q : List ℕ) (c : Complete (task ts i) path) (l : point < length path) (u : Unmasked (task ts i) (getD path point 0))
-      (d : Complete (task ts j) q) → D k (once path point q c l u d) ≡ U k (once path point q c l u d) + pairNumber k (task ts i) (task ts j) → Reached k ts i j
+      (d : Complete (task ts j) q) → lostHits k (once path point q c l u d) ≡ pairNumber k (task ts i) (task ts j) → Reached k ts i j
   reached-by path point q c l u d e = record {
     run = once path point q c l u d;
     task-i = refl;
@@ -50,25 +50,22 @@ module _ (k : Cache) (ts : List Task) (ok : Rules ts) (i j : ℕ) (hi : i < leng
 
   -- ---- some rows of paths give the number
 
-  -- D of a path of i, split after the block that is preempted along the complete path q of j
-  pub split-cost : (pre post q : List ℕ) (c : Complete (task ts i) (0 ∷ (pre ++ post))) (l : length pre < suc (length (pre ++ post)))
+  -- the lost hits of a path of i, split after the block that is preempted along the complete path q of j
+  pub split-lost : (pre post q : List ℕ) (c : Complete (task ts i) (0 ∷ (pre ++ post))) (l : length pre < suc (length (pre ++ post)))
       (u : Unmasked (task ts i) (getD (0 ∷ (pre ++ post)) (length pre) 0)) (d : Complete (task ts j) q)
-      → D k (once (0 ∷ (pre ++ post)) (length pre) q c l u d)
-      ≡ U k (once (0 ∷ (pre ++ post)) (length pre) q c l u d)
-      + usefulUsed k (withReferences k (emptyRow k) (references (task ts i) (0 ∷ pre))) (firstReferences k (references (task ts i) post)) (withReferences k (emptyRow k) (references (task ts j) q))
-  split-cost pre post q c l u d =
+      → lostHits k (once (0 ∷ (pre ++ post)) (length pre) q c l u d)
+      ≡ usefulReplaced k (withReferences k (emptyRow k) (references (task ts i) (0 ∷ pre))) (firstReferences k (references (task ts i) post)) (withReferences k (emptyRow k) (references (task ts j) q))
+  split-lost pre post q c l u d =
       let t = task ts i in
-      let r = once (0 ∷ (pre ++ post)) (length pre) q c l u d in
       let x : Preemption = record { point = length pre; by = j; path = q } in
       let form = run-once ts t 0 0 pre post x (sym (zero-add (length pre))) in
-      let a : Apart (mine ts ok i) (refs (references t (0 ∷ pre)) (Preempt (references (task ts j) q) ∷ refs (references t post) []))
-      = rw form at (apart-run ts ok i (0 ∷ (pre ++ post)) (x ∷ []) (r .each)) in
-      let join : references t (0 ∷ pre) ++ references t post ≡ references t (0 ∷ (pre ++ post)) = sym (references-join t (0 ∷ pre) post) in
-      rw (firstReferences-fold k (references t post), undisturbed k ts t (0 ∷ (pre ++ post)), ← join)
-      (count-events k ts t (0 ∷ (pre ++ post)) (x ∷ []) ∙ ap (disturbed k (emptyRow k)) form
-      ∙ exact-at k (mine ts ok i) (references t (0 ∷ pre)) (references (task ts j) q) (references t post) (emptyRow k) (length-emptyRow k) a)
+      let clean : Clean (refs (references t (0 ∷ pre)) (Preempt (references (task ts j) q) ∷ refs (references t post) []))
+      = rw form at (clean-run ts ok i (0 ∷ (pre ++ post)) (x ∷ []) (once (0 ∷ (pre ++ post)) (length pre) q c l u d .each)) in
+      rw (firstReferences-fold k (references t post))
+      (lost-events k ts t (0 ∷ (pre ++ post)) (x ∷ []) ∙ ap (lost k (emptyRow k) (emptyRow k)) form
+      ∙ lost-once k (references t (0 ∷ pre)) (references (task ts j) q) (references t post) (emptyRow k) (length-emptyRow k) clean)
 
-  reached-rows : (x : Rows k (task ts i) (task ts j)) → Unmasked (task ts i) (x .at) → counted (usefulUsed k) x ≡ pairNumber k (task ts i) (task ts j) → Reached k ts i j
+  reached-rows : (x : Rows k (task ts i) (task ts j)) → Unmasked (task ts i) (x .at) → counted (usefulReplaced k) x ≡ pairNumber k (task ts i) (task ts j) → Reached k ts i j
   reached-rows x free e =
       let (pre, to, er) = x .reaches in
       let (post, on, el) = x .lives in
@@ -76,13 +73,11 @@ module _ (k : Cache) (ts : List Task) (ok : Rules ts) (i j : ℕ) (hi : i < leng
       let l : length pre < suc (length (pre ++ post)) = omega (arith, length-append pre post) in
       let u : Unmasked (task ts i) (getD (0 ∷ (pre ++ post)) (length pre) 0) = rw (path-at (task ts i) post to) free in
       reached-by (0 ∷ (pre ++ post)) (length pre) (0 ∷ q) (refl, path-join (task ts i) to on) l u (refl, by)
-      (split-cost pre post (0 ∷ q) (refl, path-join (task ts i) to on) l u (refl, by)
-      ∙ ap (λ (c : ℕ). U k (once (0 ∷ (pre ++ post)) (length pre) (0 ∷ q) (refl, path-join (task ts i) to on) l u (refl, by)) + c)
-      (meets pre post (0 ∷ q) (x .reaching) (x .live) (x .ending) er el ef e))
+      (split-lost pre post (0 ∷ q) (refl, path-join (task ts i) to on) l u (refl, by) ∙ meets pre post (0 ∷ q) (x .reaching) (x .live) (x .ending) er el ef e)
     where
       meets : (pre post q r l f : List ℕ) → r ≡ withReferences k (emptyRow k) (references (task ts i) (0 ∷ pre)) → l ≡ firstReferences k (references (task ts i) post)
-          → f ≡ withReferences k (emptyRow k) (references (task ts j) q) → usefulUsed k r l f ≡ pairNumber k (task ts i) (task ts j)
-          → usefulUsed k (withReferences k (emptyRow k) (references (task ts i) (0 ∷ pre))) (firstReferences k (references (task ts i) post)) (withReferences k (emptyRow k) (references (task ts j) q))
+          → f ≡ withReferences k (emptyRow k) (references (task ts j) q) → usefulReplaced k r l f ≡ pairNumber k (task ts i) (task ts j)
+          → usefulReplaced k (withReferences k (emptyRow k) (references (task ts i) (0 ∷ pre))) (firstReferences k (references (task ts i) post)) (withReferences k (emptyRow k) (references (task ts j) q))
           ≡ pairNumber k (task ts i) (task ts j)
       meets pre post q r l f er el ef e = rw (← er, ← el, ← ef) e
 
@@ -107,7 +102,7 @@ module _ (k : Cache) (ts : List Task) (ok : Rules ts) (i j : ℕ) (hi : i < leng
   reached (b, l, u) = go (pair-is k (task ts i) (task ts j) .attained)
     where
       go : (pairNumber k (task ts i) (task ts j) ≡ 0)
-          ⊎ ((x : Rows k (task ts i) (task ts j)) × Unmasked (task ts i) (x .at) × (counted (usefulUsed k) x ≡ pairNumber k (task ts i) (task ts j))) → Reached k ts i j
+          ⊎ ((x : Rows k (task ts i) (task ts j)) × Unmasked (task ts i) (x .at) × (counted (usefulReplaced k) x ≡ pairNumber k (task ts i) (task ts j))) → Reached k ts i j
       go (inl z) = let x = some-rows b l in reached-rows x u (omega (arith, z, pair-is k (task ts i) (task ts j) .bound x u))
       go (inr (x, free, e)) = reached-rows x free e
 

@@ -1,10 +1,10 @@
--- Tasks that share no memory block: no hit is gained, and a preemption costs the useful and used cache blocks. Three theorems:
--- U <= D; D <= U + the costs; for at most one preemption D = U + the costs. The disturbed row holds the same or a foreign block.
+-- Tasks that share no memory block: what a preemption uses it replaces, `replaced-used`, and no hit is gained, so that D is U and the lost hits,
+-- `disturbed-lost`. The idea: the disturbed row holds the same or a foreign memory block.
 use mathlib.Core.Path.{_≡_, refl, sym, ap, _∙_}
 use mathlib.Core.Logic.{_⊎_, inl, inr}
 use mathlib.Core.Bool.{Bool, true, false, not, _&&_, and-true, false≢true, cond}
-use mathlib.Core.List.{List, [], _∷_, _++_, append-nil}
-use Prim.Native.Nat.{ℕ, _+_, _≤_, _<_}
+use mathlib.Core.List.{List, [], _∷_}
+use Prim.Native.Nat.{ℕ, _+_, _<_}
 use native.Mathlib.Omega.{arith}
 use lib.Dec.{eqb, ltb}
 use lib.ListN.{length}
@@ -13,38 +13,17 @@ use Rattle.cache.specs.Sum.{bit}
 use Rattle.cache.specs.References.{nothing, Real, All}
 use Rattle.cache.specs.Cache.{Cache, held, emptyRow, hits, withReference, withReferences, misses}
 use Rattle.cache.specs.Firsts.{firstsOver}
-use Rattle.cache.specs.Sets.{usefulUsed}
+use Rattle.cache.specs.Sets.{usefulReplaced, usefulUsed}
 use Rattle.cache.proofs.Sums.{sum-cong}
 use Rattle.cache.proofs.Rows.{length-emptyRow, held-emptyRow, length-withReference, length-withReferences, length-firstsOver, held-withReference, Effect, kept, given, effect}
-use Rattle.model.proofs.Events.{Event, Ref, Preempt, own, refs, preemptions, disturbed, lost, gained, agree, usefulReplaced, total, Parts, Clean, Apart}
-use Rattle.model.proofs.Lost.{no-place, own-refs, total-once, once, lost-same, lost-one, balance}
+use Rattle.model.proofs.Events.{Event, Ref, Preempt, own, disturbed, lost, gained, agree, EventsApart}
+use Rattle.model.proofs.Lost.{no-place, balance}
 
 -- ---- references with a weaker property
 
 pub all-map : {P Q : ℕ → Type 0} → ((m : ℕ) → P m → Q m) → (ms : List ℕ) → All P ms → All Q ms
 all-map h [] a = tt
 all-map h (m ∷ ms) a = (h m (a .0), all-map h ms (a .1))
-
-pub parts-map : {P Q R S : ℕ → Type 0} → ((m : ℕ) → P m → R m) → ((m : ℕ) → Q m → S m) → (es : List Event) → Parts P Q es → Parts R S es
-parts-map h i [] g = tt
-parts-map h i (Ref m ∷ es) g = (h m (g .0), parts-map h i es (g .1))
-parts-map h i (Preempt fs ∷ es) g = (all-map i fs (g .0), parts-map h i es (g .1))
-
-pub parts-own : (P Q : ℕ → Type 0) (es : List Event) → Parts P Q es → All P (own es)
-parts-own P Q [] g = tt
-parts-own P Q (Ref m ∷ es) g = (g .0, parts-own P Q es (g .1))
-parts-own P Q (Preempt fs ∷ es) g = parts-own P Q es (g .1)
-
-pub apart-own : (mine : ℕ → Bool) (es : List Event) → Apart mine es → All (λ m. mine m ≡ true) (own es)
-apart-own mine es g = all-map (λ m h. h .0) (own es) (parts-own _ _ es g)
-
-pub apart-clean : (mine : ℕ → Bool) (es : List Event) → Apart mine es → Clean es
-apart-clean mine es g = parts-map (λ m h. h .1) (λ m h. h .1) es g
-
--- ---- references with no preemption between them
-
-own-once : (pre fs post : List ℕ) → own (refs pre (Preempt fs ∷ refs post [])) ≡ pre ++ post
-own-once pre fs post = rw (own-refs pre (Preempt fs ∷ refs post []), own-refs post [], append-nil)
 
 module _ (k : Cache) where
   -- each cache block of the row holds nothing or something that is P
@@ -98,17 +77,6 @@ module _ (k : Cache) where
     pub replaced-used : (r l f : List ℕ) → Holds Own l → Holds Other f → usefulReplaced k r l f ≡ usefulUsed k r l f
     replaced-used r l f hl hf = sum-cong (k .width) _ _ (λ c q. used-cell (held r c) (held l c) (held f c) (hl c q) (hf c q))
 
-    pub replaced-used-total : (es : List Event) (u : List ℕ) → Apart mine es → total (usefulReplaced k) k u es ≡ total (usefulUsed k) k u es
-    replaced-used-total [] u g = refl
-    replaced-used-total (Ref m ∷ es) u g = replaced-used-total es (withReference k u m) (g .1)
-    replaced-used-total (Preempt fs ∷ es) u g =
-        omega (
-          arith,
-          replaced-used-total es u (g .1),
-          replaced-used u (firstsOver k (own es) (emptyRow k)) (withReferences k (emptyRow k) fs) (live-holds Own (own es) (apart-own mine es (g .1)))
-              (withReferences-holds Other fs (all-map (λ m h. h .0) fs (g .0))),
-        )
-
     -- ---- nothing is gained
 
     -- each cache block is the same in both rows, or holds another task's memory block in the disturbed one
@@ -144,7 +112,7 @@ module _ (k : Cache) where
         go (kept h) = rw (h d ed) (n c q)
         go (given f p h) = inr (rw (h d ed) p)
 
-    pub gained-none : (es : List Event) (d u : List ℕ) → length d ≡ k .width → length u ≡ k .width → Near d u → Apart mine es → gained k d u es ≡ 0
+    pub gained-none : (es : List Event) (d u : List ℕ) → length d ≡ k .width → length u ≡ k .width → Near d u → EventsApart mine es → gained k d u es ≡ 0
     gained-none [] d u ed eu n g = refl
     gained-none (Ref m ∷ es) d u ed eu n g =
         omega (
@@ -155,24 +123,7 @@ module _ (k : Cache) where
     gained-none (Preempt fs ∷ es) d u ed eu n g =
         gained-none es (withReferences k d fs) u (length-withReferences k fs d ed) eu (near-withReferences fs d u (all-map (λ m h. h .0) fs (g .0)) ed n) (g .1)
 
-    -- ---- the base's three theorems, from any row that both runs begin with
+    -- ---- D is U and the lost hits, from any row that both runs begin with
 
-    -- D is U and the lost hits
-    pub disturbed-lost : (es : List Event) (u : List ℕ) → length u ≡ k .width → Apart mine es → disturbed k u es ≡ misses k u (own es) + lost k u u es
+    pub disturbed-lost : (es : List Event) (u : List ℕ) → length u ≡ k .width → EventsApart mine es → disturbed k u es ≡ misses k u (own es) + lost k u u es
     disturbed-lost es u eu g = omega (arith, balance k es u u, gained-none es u u eu eu (λ c q. inl refl) g)
-
-    pub lower : (es : List Event) (u : List ℕ) → length u ≡ k .width → Apart mine es → misses k u (own es) ≤ disturbed k u es
-    lower es u eu g = omega (arith, disturbed-lost es u eu g)
-
-    pub upper-used : (es : List Event) (u : List ℕ) → length u ≡ k .width → Apart mine es → disturbed k u es ≤ misses k u (own es) + total (usefulUsed k) k u es
-    upper-used es u eu g = omega (arith, disturbed-lost es u eu g, replaced-used-total es u g, lost-same k es u eu (apart-clean mine es g))
-
-    pub exact-once : (es : List Event) (u : List ℕ) → length u ≡ k .width → Apart mine es → preemptions es ≤ 1
-        → disturbed k u es ≡ misses k u (own es) + total (usefulUsed k) k u es
-    exact-once es u eu g z = omega (arith, disturbed-lost es u eu g, replaced-used-total es u g, lost-one k es u eu (apart-clean mine es g) z)
-
-    -- the same, after the references pre and before the references post
-    pub exact-at : (pre fs post u : List ℕ) → length u ≡ k .width → Apart mine (refs pre (Preempt fs ∷ refs post []))
-        → disturbed k u (refs pre (Preempt fs ∷ refs post [])) ≡ misses k u (pre ++ post) + usefulUsed k (withReferences k u pre) (firstsOver k post (emptyRow k)) (withReferences k (emptyRow k) fs)
-    exact-at pre fs post u eu g =
-        rw (← (total-once (usefulUsed k) k pre fs post u), ← (own-once pre fs post)) (exact-once (refs pre (Preempt fs ∷ refs post [])) u eu g (once pre fs post))

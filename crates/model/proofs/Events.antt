@@ -9,7 +9,7 @@ use Rattle.cache.specs.Sum.{bit, count}
 use Rattle.cache.specs.References.{nothing, Real, All}
 use Rattle.cache.specs.Cache.{Cache, held, emptyRow, hits, withReference, withReferences}
 use Rattle.cache.specs.Firsts.{firstsOver}
-use Rattle.cache.specs.Sets.{useful, used}
+use Rattle.cache.specs.Sets.{useful}
 use Rattle.model.specs.Numbers.{Count}
 
 pub data Event : Type 0 where
@@ -58,14 +58,6 @@ gained k d u (Preempt fs ∷ es) = gained k (withReferences k d fs) u es
 abbrev pub agree : ℕ → ℕ → Bool
 agree x y = eqb x y && not (eqb x nothing)
 
--- the row f holds, at the cache block c, a memory block other than that of r
-abbrev pub replaces : List ℕ → List ℕ → ℕ → Bool
-replaces f r c = used f c && not (eqb (held f c) (held r c))
-
--- the cache blocks where r and l agree and f holds something else
-abbrev pub usefulReplaced : Cache → List ℕ → List ℕ → List ℕ → ℕ
-usefulReplaced k r l f = count (k .width) (λ c. useful r l c && replaces f r c)
-
 -- a number for each preemption of a run, summed: v is given the row of the undisturbed run there, the first references to come,
 -- and the row that the preemption makes from the empty one; the undisturbed run begins with the row u
 abbrev pub total : Count → Cache → List ℕ → List Event → ℕ
@@ -89,5 +81,5 @@ abbrev pub Clean : List Event → Type 0
 Clean es = Parts Real Real es
 
 -- own references are mine, and no other reference is
-abbrev pub Apart : (ℕ → Bool) → List Event → Type 0
-Apart mine es = Parts (λ m. (mine m ≡ true) × Real m) (λ f. (mine f ≡ false) × Real f) es
+abbrev pub EventsApart : (ℕ → Bool) → List Event → Type 0
+EventsApart mine es = Parts (λ m. (mine m ≡ true) × Real m) (λ f. (mine f ≡ false) × Real f) es

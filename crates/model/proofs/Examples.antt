@@ -7,7 +7,7 @@ use lib.ListN.{length}
 use Rattle.cache.specs.References.{nothing}
 use Rattle.cache.specs.Cache.{direct}
 use Rattle.model.specs.Tasks.{task}
-use Rattle.model.specs.Runs.{Preemption, countAtEnd}
+use Rattle.model.specs.Runs.{Preemption, countAtEnd, lostAtEnd}
 use Rattle.model.specs.Computed.{reaching, living, pairNumber}
 use Rattle.model.specs.Figures.{figure1, oneBlock, aFork, tasksE, forks}
 
@@ -44,6 +44,14 @@ byTask1 point = record { point = point; by = 1; path = 0 ∷ [] }
 pub countsE : (countE [] ≡ 2) × (countE (byTask1 0 ∷ []) ≡ 3) × (countE (byTask1 1 ∷ []) ≡ 2)
 unfolding nothing
 countsE = (refl, refl, refl)
+
+-- the lost hits of the same two runs
+abbrev pub lostE : List Preemption → ℕ
+lostE xs = lostAtEnd (direct 2) tasksE (task tasksE 0) (0 ∷ 0 ∷ []) xs
+
+pub lost-hitsE : (lostE [] ≡ 0) × (lostE (byTask1 0 ∷ []) ≡ 1) × (lostE (byTask1 1 ∷ []) ≡ 0)
+unfolding nothing
+lost-hitsE = (refl, refl, refl)
 
 -- ---- five forks in a row, each loading one of two memory blocks of its own cache block; n = 16
 

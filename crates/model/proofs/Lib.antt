@@ -7,6 +7,7 @@ pub mod Events
 pub mod Lost
 pub mod Disjoint
 pub mod Most
+pub mod OldNumbers
 pub mod RunEvents
 pub mod Bounds
 pub mod Demand
@@ -16,4 +17,5 @@ pub mod Narrower
 pub mod StatesWidth
 pub mod Examples
 pub mod Neighbours
+pub mod SharedNeighbours
 pub mod OnPath

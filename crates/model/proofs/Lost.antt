@@ -14,11 +14,11 @@ use Rattle.cache.specs.Sum.{bit}
 use Rattle.cache.specs.References.{nothing, Real, All}
 use Rattle.cache.specs.Cache.{Cache, held, emptyRow, hits, withReference, withReferences, misses}
 use Rattle.cache.specs.Firsts.{firstsOver}
-use Rattle.cache.specs.Sets.{useful}
+use Rattle.cache.specs.Sets.{useful, replaces, usefulReplaced}
 use Rattle.cache.proofs.Sums.{sum-cong, sum-le, sum-add, sum-zero, sum-at}
 use Rattle.cache.proofs.Rows.{held-beyond, length-emptyRow, held-emptyRow, length-withReference, length-withReferences, length-firstsOver, held-withReference, Effect, kept, given, effect}
 use Rattle.model.specs.Numbers.{Count}
-use Rattle.model.proofs.Events.{Event, Ref, Preempt, own, refs, preemptions, disturbed, lost, gained, agree, replaces, usefulReplaced, total, gap, Parts, Clean}
+use Rattle.model.proofs.Events.{Event, Ref, Preempt, own, refs, preemptions, disturbed, lost, gained, agree, total, gap, Parts, Clean}
 
 -- ---- one cache block, with d in the disturbed and u in the undisturbed cache
 

@@ -12,13 +12,13 @@ use lib.Dec.{eqb, ltb}
 use lib.ListN.{length}
 use borrow.Author.Tests.{eqb-true, eq-eqb, ltb-true, ltb-false}
 use Rattle.cache.specs.Cache.{Cache}
-use Rattle.cache.specs.Sets.{useful, used, usefulUsed}
+use Rattle.cache.specs.Sets.{useful, replaces, usefulReplaced, usefulUsed}
 use Rattle.cache.proofs.Sums.{count-le}
 use Rattle.model.specs.Lists.{mem, best}
 use Rattle.model.specs.Tasks.{Block, Task, block, Unmasked, SomeUnmasked, end}
 use Rattle.model.specs.States.{Reaches, Lives}
-use Rattle.model.specs.Numbers.{Count, Rows, counted, Most, PairNumber, NumberOverAll}
-use Rattle.model.specs.Computed.{State, sameList, sameState, reachingStates, liveStates, rowsAt, unmasked, most, pairNumber}
+use Rattle.model.specs.Numbers.{Count, Rows, counted, Most, PairNumber, UsedNumber, NumberOverAll}
+use Rattle.model.specs.Computed.{State, sameList, sameState, reachingStates, liveStates, rowsAt, unmasked, most, pairNumber, usedNumber}
 use Rattle.model.proofs.Membership.{or-cases, or-left, or-right, eqb-self, sameList-self, sameList-true, sameState-self, sameState-true}
 use Rattle.model.proofs.Paths.{path-last}
 use Rattle.model.proofs.Exact.{reaching-exact, live-exact}
@@ -160,7 +160,10 @@ pub unmasked-most : (v : Count) (k : Cache) (i j : Task) → Most v k i j (Unmas
 unmasked-most v k i j = most-is v k i j (Unmasked i) (unmasked i) (unmasked-exact i)
 
 pub pair-is : (k : Cache) (i j : Task) → PairNumber k i j (pairNumber k i j)
-pair-is k i j = unmasked-most (usefulUsed k) k i j
+pair-is k i j = unmasked-most (usefulReplaced k) k i j
+
+pub used-is : (k : Cache) (i j : Task) → UsedNumber k i j (usedNumber k i j)
+used-is k i j = unmasked-most (usefulUsed k) k i j
 
 pub over-all-is : (k : Cache) (i j : Task) → NumberOverAll k i j (most (usefulUsed k) k i j (λ b. true))
 over-all-is k i j = most-is (usefulUsed k) k i j (λ (b : ℕ). Unit {0}) (λ b. true) (λ b. (λ e. tt, λ u. refl))
@@ -169,26 +172,14 @@ over-all-is k i j = most-is (usefulUsed k) k i j (λ (b : ℕ). Unit {0}) (λ b.
 pub pair-le : (k : Cache) (i j : Task) → pairNumber k i j ≤ k .width
 pair-le k i j = go (pair-is k i j .attained)
   where
-    go : (pairNumber k i j ≡ 0) ⊎ ((rows : Rows k i j) × Unmasked i (rows .at) × (counted (usefulUsed k) rows ≡ pairNumber k i j)) → pairNumber k i j ≤ k .width
+    go : (pairNumber k i j ≡ 0) ⊎ ((rows : Rows k i j) × Unmasked i (rows .at) × (counted (usefulReplaced k) rows ≡ pairNumber k i j)) → pairNumber k i j ≤ k .width
     go (inl z) = omega arith
-    go (inr (rows, free, e)) = omega (arith, e, count-le (k .width) (λ c. useful (rows .reaching) (rows .live) c && used (rows .ending) c))
-
--- a task without masked blocks has the numbers of document 01 alone
-pub without-masks : (k : Cache) (i j : Task) → ((b : ℕ) → b < length i → Unmasked i b) → NumberOverAll k i j (pairNumber k i j)
-without-masks k i j free = record {
-  bound = λ rows all. pair-is k i j .bound rows (free (rows .at) (path-last i (rows .reaches .1)));
-  attained = go (pair-is k i j .attained);
-}
-  where
-    go : (pairNumber k i j ≡ 0) ⊎ ((rows : Rows k i j) × Unmasked i (rows .at) × (counted (usefulUsed k) rows ≡ pairNumber k i j))
-        → (pairNumber k i j ≡ 0) ⊎ ((rows : Rows k i j) × Unit {0} × (counted (usefulUsed k) rows ≡ pairNumber k i j))
-    go (inl z) = inl z
-    go (inr (rows, free, e)) = inr (rows, tt, e)
+    go (inr (rows, free, e)) = omega (arith, e, count-le (k .width) (λ c. useful (rows .reaching) (rows .live) c && replaces (rows .ending) (rows .reaching) c))
 
 -- a task with no unmasked block has the number 0
 pub masked-zero : (k : Cache) (i j : Task) → (SomeUnmasked i → ⊥) → pairNumber k i j ≡ 0
 masked-zero k i j none = go (pair-is k i j .attained)
   where
-    go : (pairNumber k i j ≡ 0) ⊎ ((rows : Rows k i j) × Unmasked i (rows .at) × (counted (usefulUsed k) rows ≡ pairNumber k i j)) → pairNumber k i j ≡ 0
+    go : (pairNumber k i j ≡ 0) ⊎ ((rows : Rows k i j) × Unmasked i (rows .at) × (counted (usefulReplaced k) rows ≡ pairNumber k i j)) → pairNumber k i j ≡ 0
     go (inl z) = z
     go (inr (rows, free, e)) = absurd (none (rows .at, path-last i (rows .reaches .1), free))

@@ -1,27 +1,25 @@
 -- Statements next to the main theorems that are false, each with the run or the row that refutes it.
 -- The tasks of file E keep the rules, and their runs are computed.
 use mathlib.Core.Path.{_≡_, refl}
-use mathlib.Core.Logic.{_≢_, _⊎_, inl, inr}
 use mathlib.Core.Bool.{Bool, true, _&&_, false≢true}
 use mathlib.Core.List.{List, [], _∷_}
 use Prim.Native.Nat.{ℕ, zero, suc, _+_, _≤_, _<_}
 use native.Mathlib.Omega.{arith}
 use lib.Dec.{eqb}
 use lib.ListN.{length, getD, drop}
-use borrow.Author.Tests.{eqb-true}
 use Rattle.cache.specs.Sum.{count}
 use Rattle.cache.specs.References.{nothing, Real, All}
 use Rattle.cache.specs.Cache.{Cache, direct, held, firstReferences}
-use Rattle.cache.specs.Sets.{used, usefulUsed}
-use Rattle.model.specs.Lists.{mem, best}
-use Rattle.model.specs.Tasks.{Block, Task, Unmasked, SomeUnmasked, end, PathFrom, stay, step, Complete, OnCompletePath, references, memoryBlocks, Share, task, Rules}
+use Rattle.cache.specs.Sets.{replaces, usefulReplaced, usefulUsed}
+use Rattle.model.specs.Lists.{best}
+use Rattle.model.specs.Tasks.{Block, Task, Unmasked, SomeUnmasked, end, PathFrom, stay, step, Complete, OnCompletePath, references, memoryBlocks, task, Rules}
 use Rattle.model.specs.States.{Reaches, Lives}
 use Rattle.model.specs.Numbers.{Count, NumberOverAll}
-use Rattle.model.specs.Runs.{Preemption, Preempts, DisturbedRun, countAtEnd, U, D}
+use Rattle.model.specs.Runs.{Preemption, Preempts, DisturbedRun, ownHits, lostAtEnd, U, D, lostHits}
 use Rattle.model.specs.Computed.{State, sameState, close, liveNext, rounds, rowsAt, reachingStates, unmasked, most, pairNumber}
 use Rattle.model.specs.Demand.{pairSum, NonePreempted}
-use Rattle.model.proofs.Membership.{or-cases, one-is}
 use Rattle.model.proofs.Sorted.{reaching-rows}
+use Rattle.model.proofs.RunEvents.{none-lost}
 use Rattle.model.proofs.Bounds.{bounded}
 use Rattle.model.proofs.Most.{over-all-is}
 use Rattle.model.proofs.Demand.{none-preempted}
@@ -29,22 +27,6 @@ use Rattle.model.specs.Figures.{tasksE, tasksMasked0, tasksMasked1, figu
 use Rattle.model.proofs.Examples.{byTask1}
 
 -- ---- the tasks of E keep the rules
-
-two-of : (m x y : ℕ) → mem eqb m (x ∷ y ∷ []) ≡ true → (m ≡ x) ⊎ (m ≡ y)
-two-of m x y e = elim (or-cases (eqb m x) (mem eqb m (y ∷ [])) e)
-    [ inl p ↦ inl (eqb-true m x p) | inr p ↦ inr (one-is m y p) ]
-
-apart-01 : Share (task tasksE 0) (task tasksE 1) → ⊥
-apart-01 (m, p, q) = elim (two-of m 0 1 p) [ inl e ↦ omega (arith, one-is m 2 q) | inr e ↦ omega (arith, one-is m 2 q) ]
-
-apartE : (i j : ℕ) → i ≢ j → Share (task tasksE i) (task tasksE j) → ⊥
-apartE zero zero n s = n refl
-apartE zero (suc zero) n s = apart-01 s
-apartE zero (suc (suc j)) n (m, p, q) = false≢true q
-apartE (suc zero) zero n (m, p, q) = apart-01 (m, q, p)
-apartE (suc zero) (suc zero) n s = n refl
-apartE (suc zero) (suc (suc j)) n (m, p, q) = false≢true q
-apartE (suc (suc i)) j n (m, p, q) = false≢true p
 
 realE : (j : ℕ) → All Real (memoryBlocks (task tasksE j))
 unfolding nothing
@@ -65,7 +47,7 @@ someE (suc zero) h = omega arith
 someE (suc (suc j)) h = absurd (omega arith)
 
 pub rulesE : Rules tasksE
-rulesE = record { some = someE; complete = completeE; apart = apartE; real = realE }
+rulesE = record { some = someE; complete = completeE; real = realE }
 
 -- ---- D <= U
 
@@ -93,9 +75,9 @@ onceE = record {
   rising = tt;
 }
 
-once-counts : (U (direct 2) onceE ≡ 2) × (D (direct 2) onceE ≡ 3)
+once-counts : (U (direct 2) onceE ≡ 2) × (D (direct 2) onceE ≡ 3) × (lostHits (direct 2) onceE ≡ 1)
 unfolding nothing
-once-counts = (refl, refl)
+once-counts = (refl, refl, refl)
 
 pub not-D-le-U : ((r : DisturbedRun tasksE) → D (direct 2) r ≤ U (direct 2) r) → ⊥
 not-D-le-U h = omega (arith, h onceE, once-counts)
@@ -113,11 +95,11 @@ twiceE = record {
   rising = (omega arith, tt);
 }
 
-twice-counts : (U (direct 2) twiceE ≡ 2) × (D (direct 2) twiceE ≡ 4) × (pairSum (direct 2) tasksE 0 (drop 1 (twiceE .preemptions)) ≡ 1)
+twice-counts : (lostHits (direct 2) twiceE ≡ 2) × (pairSum (direct 2) tasksE 0 (drop 1 (twiceE .preemptions)) ≡ 1)
 unfolding nothing
-twice-counts = (refl, refl, refl)
+twice-counts = (refl, refl)
 
-pub not-one-left-out : ((r : DisturbedRun tasksE) → D (direct 2) r ≤ U (direct 2) r + pairSum (direct 2) tasksE (r .p) (drop 1 (r .preemptions))) → ⊥
+pub not-one-left-out : ((r : DisturbedRun tasksE) → lostHits (direct 2) r ≤ pairSum (direct 2) tasksE (r .p) (drop 1 (r .preemptions))) → ⊥
 not-one-left-out h = omega (arith, h twiceE, twice-counts)
 
 -- ---- live rows without the end block's stopping row
@@ -142,26 +124,26 @@ mostWithoutStop v k i j =
     best (λ (x : State). best (λ (l : List ℕ). best (λ (f : List ℕ). v (x .1) l f) (rowsAt (end j) (reachingStates k j)))
     (rowsAt (x .0) (close sameState (liveNext k i) (rounds k i) []))) (reachingStates k i)
 
-without-stop : mostWithoutStop (usefulUsed (direct 2)) (direct 2) (task tasksE 0) (task tasksE 1) ≡ 0
+without-stop : mostWithoutStop (usefulReplaced (direct 2)) (direct 2) (task tasksE 0) (task tasksE 1) ≡ 0
 unfolding nothing
 without-stop = refl
 
-pub not-without-stop : D (direct 2) onceE ≤ U (direct 2) onceE + mostWithoutStop (usefulUsed (direct 2)) (direct 2) (task tasksE 0) (task tasksE 1) → ⊥
+pub not-without-stop : lostHits (direct 2) onceE ≤ mostWithoutStop (usefulReplaced (direct 2)) (direct 2) (task tasksE 0) (task tasksE 1) → ⊥
 not-without-stop h = omega (arith, h, once-counts, without-stop)
 
 -- ---- two nothings counted as useful
 
-abbrev pub usedOrNothing : Cache → Count
-usedOrNothing k r l f = count (k .width) (λ c. eqb (held r c) (held l c) && used f c)
+abbrev pub replacedOrNothing : Cache → Count
+replacedOrNothing k r l f = count (k .width) (λ c. eqb (held r c) (held l c) && replaces f r c)
 
-two-nothings : (most (usedOrNothing (direct 2)) (direct 2) (task tasksE 1) (task tasksE 0) (unmasked (task tasksE 1)) ≡ 1) × (pairNumber (direct 2) (task tasksE 1) (task tasksE 0) ≡ 0)
+two-nothings : (most (replacedOrNothing (direct 2)) (direct 2) (task tasksE 1) (task tasksE 0) (unmasked (task tasksE 1)) ≡ 1) × (pairNumber (direct 2) (task tasksE 1) (task tasksE 0) ≡ 0)
 unfolding nothing
 two-nothings = (refl, refl)
 
 -- then no run of task 1 with exactly one preemption, by task 0, reaches the number
 pub not-two-nothings : (r : DisturbedRun tasksE) (one : Preemption) → r .p ≡ 1 → r .preemptions ≡ one ∷ [] → one .by ≡ 0
-    → D (direct 2) r ≡ U (direct 2) r + most (usedOrNothing (direct 2)) (direct 2) (task tasksE 1) (task tasksE 0) (unmasked (task tasksE 1)) → ⊥
-not-two-nothings r one p q b e = omega (arith, e, two-nothings, bounded (direct 2) tasksE rulesE r .1, sum-none (r .p) (r .preemptions) one p q b)
+    → lostHits (direct 2) r ≡ most (replacedOrNothing (direct 2)) (direct 2) (task tasksE 1) (task tasksE 0) (unmasked (task tasksE 1)) → ⊥
+not-two-nothings r one p q b e = omega (arith, e, two-nothings, bounded (direct 2) tasksE rulesE r .lost, sum-none (r .p) (r .preemptions) one p q b)
   where
     sum-none : (i : ℕ) (xs : List Preemption) (one : Preemption) → i ≡ 1 → xs ≡ one ∷ [] → one .by ≡ 0 → pairSum (direct 2) tasksE i xs ≡ 0
     sum-none i xs one p q b = rw (p, q, b) (omega (arith, two-nothings .1))
@@ -187,16 +169,15 @@ pub all-masked : SomeUnmasked (task tasksMasked0 0) → ⊥
 all-masked (zero, l, e) = omega (arith, e)
 all-masked (suc b, l, e) = omega (arith, l)
 
--- no run of task 0 costs that 1
-pub none-costs-1 : (r : DisturbedRun tasksMasked0) → r .p ≡ 0 → D (direct 2) r ≡ U (direct 2) r + 1 → ⊥
-none-costs-1 r p e = omega (arith, e, same (r .path) (r .preemptions) (none-preempted (direct 2) tasksMasked0 0 all-masked .runs r p))
+-- no run of task 0 loses that hit
+pub none-loses-1 : (r : DisturbedRun tasksMasked0) → r .p ≡ 0 → lostHits (direct 2) r ≡ 1 → ⊥
+none-loses-1 r p e = omega (arith, e, none (r .preemptions) (none-preempted (direct 2) tasksMasked0 0 all-masked .runs r p))
   where
-    same : (path : List ℕ) (xs : List Preemption) → xs ≡ []
-        → countAtEnd (direct 2) tasksMasked0 (task tasksMasked0 (r .p)) path xs ≡ countAtEnd (direct 2) tasksMasked0 (task tasksMasked0 (r .p)) path []
-    same path xs n = rw n
+    none : (xs : List Preemption) → xs ≡ [] → lostAtEnd (direct 2) tasksMasked0 (task tasksMasked0 (r .p)) (r .path) xs ≡ 0
+    none xs n = rw n (none-lost (ownHits (direct 2) tasksMasked0 (task tasksMasked0 (r .p)) (r .path) []))
 
-pub not-over-all : ((ts : List Task) (i j x : ℕ) → NumberOverAll (direct 2) (task ts i) (task ts j) x → (r : DisturbedRun ts) × (r .p ≡ i) × (D (direct 2) r ≡ U (direct 2) r + x)) → ⊥
-not-over-all h = let (r, p, e) = h tasksMasked0 0 1 1 over-all-1 in none-costs-1 r p e
+pub not-over-all : ((ts : List Task) (i j x : ℕ) → NumberOverAll (direct 2) (task ts i) (task ts j) x → (r : DisturbedRun ts) × (r .p ≡ i) × (lostHits (direct 2) r ≡ x)) → ⊥
+not-over-all h = let (r, p, e) = h tasksMasked0 0 1 1 over-all-1 in none-loses-1 r p e
 
 -- ---- a masked preempting task costs nothing
 

@@ -14,7 +14,7 @@ use Rattle.cache.specs.Sum.{bit, sum}
 use Rattle.cache.specs.References.{nothing}
 use Rattle.cache.specs.Cache.{Cache, wide, direct, held, emptyRow, withReference, withReferences, firstReferences}
 use Rattle.cache.specs.Firsts.{firstsOver}
-use Rattle.cache.specs.Sets.{useful, used, usefulUsed}
+use Rattle.cache.specs.Sets.{useful, replaces, usefulReplaced}
 use Rattle.cache.proofs.Sums.{sum-cong}
 use Rattle.cache.proofs.Rows.{length-emptyRow, length-withReference, length-withReferences, length-firstsOver, firstReferences-fold}
 use Rattle.model.specs.Tasks.{Task, Unmasked, end, PathFrom, references}
@@ -102,16 +102,16 @@ module _ (n : ℕ) (pos : 0 < n) (d : ℕ) where
   sum-outer zero f h = ap (λ x. sum x f) (add-zero n)
   sum-outer (suc m) f h = ap (λ x. sum x f) (add-suc n m) ∙ omega (arith, sum-outer m f (λ c l. h c (omega arith)), h m (omega arith))
 
-  padded-count : (r l f : List ℕ) → length r ≡ n → length l ≡ n → length f ≡ n → usefulUsed broad (padded r) (padded l) (padded f) ≡ usefulUsed narrow r l f
+  padded-count : (r l f : List ℕ) → length r ≡ n → length l ≡ n → length f ≡ n → usefulReplaced broad (padded r) (padded l) (padded f) ≡ usefulReplaced narrow r l f
   padded-count r l f er el ef =
-      sum-outer d (λ c. bit (useful (padded r) (padded l) c && used (padded f) c))
+      sum-outer d (λ c. bit (useful (padded r) (padded l) c && replaces (padded f) (padded r) c))
       (λ c h. rw (held-outer r c er h, held-outer l c el h, eq-eqb nothing nothing refl))
       ∙ sum-cong n _ _ (λ c h. rw (held-inner r c er h, held-inner l c el h, held-inner f c ef h))
 
   -- ---- the pair number
 
   -- the same rows of a block, in the other width
-  to-narrow : (i j : Task) (x : Rows broad i j) → (y : Rows narrow i j) × (y .at ≡ x .at) × (counted (usefulUsed broad) x ≡ counted (usefulUsed narrow) y)
+  to-narrow : (i j : Task) (x : Rows broad i j) → (y : Rows narrow i j) × (y .at ≡ x .at) × (counted (usefulReplaced broad) x ≡ counted (usefulReplaced narrow) y)
   to-narrow i j x =
       let r = reaches-narrow i (x .at) (x .reaching) (x .reaches) in
       let l = lives-narrow i (x .at) (x .live) (x .lives) in
@@ -122,7 +122,7 @@ module _ (n : ℕ) (pos : 0 < n) (d : ℕ) where
       )
     where
       same-count : (r l f r' l' f' : List ℕ) → r ≡ padded r' → l ≡ padded l' → f ≡ padded f' → length r' ≡ n → length l' ≡ n → length f' ≡ n
-          → usefulUsed broad r l f ≡ usefulUsed narrow r' l' f'
+          → usefulReplaced broad r l f ≡ usefulReplaced narrow r' l' f'
       same-count r l f r' l' f' er el ef lr ll lf = rw (er, el, ef) (padded-count r' l' f' lr ll lf)
 
   row-long : (t : Task) (b : ℕ) (row : List ℕ) → Reaches narrow t b row → length row ≡ n
@@ -132,7 +132,7 @@ module _ (n : ℕ) (pos : 0 < n) (d : ℕ) where
   live-long t b row (p, w, e) =
       ap length (e ∙ firstReferences-fold narrow (references t p)) ∙ length-firstsOver narrow (references t p) (emptyRow narrow) (length-emptyRow narrow)
 
-  to-broad : (i j : Task) (x : Rows narrow i j) → (y : Rows broad i j) × (y .at ≡ x .at) × (counted (usefulUsed broad) y ≡ counted (usefulUsed narrow) x)
+  to-broad : (i j : Task) (x : Rows narrow i j) → (y : Rows broad i j) × (y .at ≡ x .at) × (counted (usefulReplaced broad) y ≡ counted (usefulReplaced narrow) x)
   to-broad i j x = (
     record {
       at = x .at;
@@ -153,13 +153,13 @@ module _ (n : ℕ) (pos : 0 < n) (d : ℕ) where
     attained = go (pair-is narrow i j .attained);
   }
     where
-      go : (pairNumber narrow i j ≡ 0) ⊎ ((x : Rows narrow i j) × Unmasked i (x .at) × (counted (usefulUsed narrow) x ≡ pairNumber narrow i j))
-          → (pairNumber narrow i j ≡ 0) ⊎ ((y : Rows broad i j) × Unmasked i (y .at) × (counted (usefulUsed broad) y ≡ pairNumber narrow i j))
+      go : (pairNumber narrow i j ≡ 0) ⊎ ((x : Rows narrow i j) × Unmasked i (x .at) × (counted (usefulReplaced narrow) x ≡ pairNumber narrow i j))
+          → (pairNumber narrow i j ≡ 0) ⊎ ((y : Rows broad i j) × Unmasked i (y .at) × (counted (usefulReplaced broad) y ≡ pairNumber narrow i j))
       go (inl z) = inl z
       go (inr (x, free, e)) = let (y, at, q) = to-broad i j x in inr (y, rw at free, q ∙ e)
 
   broad-number : (i j : Task) → pairNumber broad i j ≡ pairNumber narrow i j
-  broad-number i j = most-unique (usefulUsed broad) broad i j (Unmasked i) (pairNumber broad i j) (pairNumber narrow i j) (pair-is broad i j) (broad-most i j)
+  broad-number i j = most-unique (usefulReplaced broad) broad i j (Unmasked i) (pairNumber broad i j) (pairNumber narrow i j) (pair-is broad i j) (broad-most i j)
 
 -- the pair number by rows of any width: it depends on n and the two tasks alone
 pub pair-width : (n w : ℕ) → 0 < n → n ≤ w → (i j : Task) → pairNumber (wide w n) i j ≡ pairNumber (direct n) i j

@@ -7,7 +7,7 @@ use lib.Dec.{eqb, ltb}
 use lib.ListN.{length}
 use Rattle.cache.specs.Cache.{Cache, Row, emptyRow, withReferences}
 use Rattle.cache.specs.Firsts.{firstsOver}
-use Rattle.cache.specs.Sets.{usefulUsed}
+use Rattle.cache.specs.Sets.{usefulReplaced, usefulUsed}
 use Rattle.model.specs.Lists.{mem, best}
 use Rattle.model.specs.Tasks.{Block, Task, block, end, memoryBlocks}
 use Rattle.model.specs.Numbers.{Count}
@@ -121,4 +121,8 @@ most v k i j test =
 
 -- the pair number of task i preempted by task j, in a cache
 abbrev pub pairNumber : Cache → Task → Task → ℕ
-pairNumber k i j = most (usefulUsed k) k i j (unmasked i)
+pairNumber k i j = most (usefulReplaced k) k i j (unmasked i)
+
+-- the number before document 02, Point 5
+abbrev pub usedNumber : Cache → Task → Task → ℕ
+usedNumber k i j = most (usefulUsed k) k i j (unmasked i)

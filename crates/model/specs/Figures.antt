@@ -43,3 +43,17 @@ tasksMasked0 = (masked (0 ∷ []) (0 ∷ 1 ∷ []) ∷ []) ∷ (basic [] (2 ∷ 
 
 abbrev pub tasksMasked1 : List Task
 tasksMasked1 = (basic (0 ∷ []) (0 ∷ 1 ∷ []) ∷ []) ∷ (masked [] (2 ∷ []) ∷ []) ∷ []
+
+-- ---- document 02, Point 5: tasks that share memory blocks
+
+-- n = 1: an empty block, then a block that reads 4; the other task reads 4
+abbrev pub tasksGain : List Task
+tasksGain = (basic (1 ∷ []) [] ∷ basic [] (4 ∷ []) ∷ []) ∷ (basic [] (4 ∷ []) ∷ []) ∷ []
+
+-- n = 2: block 0 reads 0, block 1 reads 0 and 1; the other task reads 2 and 1
+abbrev pub tasksBoth : List Task
+tasksBoth = (basic (1 ∷ []) (0 ∷ []) ∷ basic [] (0 ∷ 1 ∷ []) ∷ []) ∷ (basic [] (2 ∷ 1 ∷ []) ∷ []) ∷ []
+
+-- n = 1: a loop over 2; the other task reads 2
+abbrev pub tasksSame : List Task
+tasksSame = (basic (0 ∷ []) (2 ∷ []) ∷ []) ∷ (basic [] (2 ∷ []) ∷ []) ∷ []

@@ -1,9 +1,9 @@
--- Document 01, "Paths and cache", and document 02, Point 1: the pair number, against paths. Definitions only.
+-- Document 01, "Paths and cache", and document 02, Points 1 and 5: the pair number, against paths. Definitions only.
 use mathlib.Core.Path.{_≡_}
 use mathlib.Core.Logic.{_⊎_}
 use Prim.Native.Nat.{ℕ, _≤_}
 use Rattle.cache.specs.Cache.{Cache, Row}
-use Rattle.cache.specs.Sets.{usefulUsed}
+use Rattle.cache.specs.Sets.{usefulReplaced, usefulUsed}
 use Rattle.model.specs.Tasks.{Task, Unmasked, end}
 use Rattle.model.specs.States.{Reaches, Lives}
 
@@ -30,10 +30,15 @@ pub record Most (v : Count) (k : Cache) (i j : Task) (At : ℕ → Type 0) (x : 
   pub bound : (rows : Rows k i j) → At (rows .at) → counted v rows ≤ x
   pub attained : (x ≡ 0) ⊎ ((rows : Rows k i j) × At (rows .at) × (counted v rows ≡ x))
 
--- "Pair number of task i preempted by task j: the most cache blocks both useful in i and used by j, over all blocks, row pairs
--- and used sets."; Point 1: "Pair numbers range over blocks with flag 0 and are 0 if a task has none."
+-- "Pair number of task i preempted by task j: the most cache blocks .. over all blocks, row pairs and" end rows; Point 1: "Pair numbers range
+-- over blocks with flag 0 and are 0 if a task has none."; Point 5: "A cache block counts when it is useful in i and the end state of j holds
+-- something there other than the useful memory block."
 abbrev pub PairNumber : Cache → Task → Task → ℕ → Type 0
-PairNumber k i j x = Most (usefulUsed k) k i j (Unmasked i) x
+PairNumber k i j x = Most (usefulReplaced k) k i j (Unmasked i) x
+
+-- the number before Point 5: "the most cache blocks both useful in i and used by j"
+abbrev pub UsedNumber : Cache → Task → Task → ℕ → Type 0
+UsedNumber k i j x = Most (usefulUsed k) k i j (Unmasked i) x
 
 -- the number of document 01 alone, over masked blocks too
 abbrev pub NumberOverAll : Cache → Task → Task → ℕ → Type 0

@@ -1,8 +1,8 @@
--- Document 01, "Paths and cache", and document 02, Point 1: disturbed runs, U and D. Definitions only.
+-- Document 01, "Paths and cache", and document 02, Points 1 and 5: disturbed runs, U, D and the lost hits. Definitions only.
 use mathlib.Core.Path.{_≡_}
 use mathlib.Core.Logic.{_≢_}
-use mathlib.Core.Bool.{not, cond}
-use mathlib.Core.List.{List, [], _∷_}
+use mathlib.Core.Bool.{Bool, not, _&&_, cond}
+use mathlib.Core.List.{List, [], _∷_, _++_}
 use Prim.Native.Nat.{ℕ, suc, _+_, _≤_, _<_}
 use lib.Dec.{eqb}
 use lib.ListN.{length, getD}
@@ -92,3 +92,38 @@ D k {ts} r = countAtEnd k ts (task ts (r .p)) (r .path) (r .preemptions)
 -- "U is the count at the end of the same path with the empty list."
 abbrev pub U : Cache → {ts : List Task} → DisturbedRun ts → ℕ
 U k {ts} r = countAtEnd k ts (task ts (r .p)) (r .path) []
+
+-- ---- document 02, Point 5: "a third number, the hits of the undisturbed run that became misses"
+
+-- whether each of the references hits, in order, on the row as it then stands
+abbrev pub hitsOf : Cache → Row → List ℕ → List Bool
+hitsOf k row [] = []
+hitsOf k row (m ∷ ms) = hits k row m ∷ hitsOf k (withReference k row m) ms
+
+-- the same of the run's own references, in order: the path's blocks from the position i on, with the rows that `positions` has there
+abbrev pub hitsFrom : Cache → List Task → Task → List Preemption → ℕ → RowCount → Path → List Bool
+hitsFrom k ts t xs i s [] = []
+hitsFrom k ts t xs i s (b ∷ p) =
+    hitsOf k (s .row) (block t b .references)
+    ++ hitsFrom k ts t xs (suc i) (preemptedBy k ts (ownReferences k s (block t b .references)) (withPoint i xs)) p
+
+abbrev pub ownHits : Cache → List Task → Task → Path → List Preemption → List Bool
+ownHits k ts t path xs = hitsFrom k ts t xs 0 (atFirst k) path
+
+-- the places where the first list has a hit and the second has none
+abbrev pub lostOf : List Bool → List Bool → ℕ
+lostOf [] after = 0
+lostOf (h ∷ before) [] = 0
+lostOf (h ∷ before) (g ∷ after) = bit (h && not g) + lostOf before after
+
+-- the misses in such a list: U and D are those of the two lists (proofs/RunEvents, `misses-of-hits`)
+abbrev pub missesIn : List Bool → ℕ
+missesIn [] = 0
+missesIn (h ∷ hs) = bit (not h) + missesIn hs
+
+-- the own references of the path of a task that hit without preemptions, and miss with them
+abbrev pub lostAtEnd : Cache → List Task → Task → Path → List Preemption → ℕ
+lostAtEnd k ts t path xs = lostOf (ownHits k ts t path []) (ownHits k ts t path xs)
+
+abbrev pub lostHits : Cache → {ts : List Task} → DisturbedRun ts → ℕ
+lostHits k {ts} r = lostAtEnd k ts (task ts (r .p)) (r .path) (r .preemptions)

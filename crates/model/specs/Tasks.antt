@@ -74,9 +74,12 @@ Share i j = (m : ℕ) × (mem eqb m (memoryBlocks i) ≡ true) × (mem eqb m (me
 abbrev pub task : List Task → ℕ → Task
 task ts j = getD ts j []
 
--- what the tasks of an accepted file keep: "B, the basic blocks, 1 to 24"; check 9; check 10; references are "0 to 65,534"
+-- no two tasks of a file share a memory block, as document 01's check 10 asked
+abbrev pub Apart : List Task → Type 0
+Apart ts = (i j : ℕ) → i ≢ j → Share (task ts i) (task ts j) → ⊥
+
+-- what the tasks of an accepted file keep: "B, the basic blocks, 1 to 24"; check 9; references are "0 to 65,534"
 pub record Rules (ts : List Task) : Type 0 where
   pub some : (j : ℕ) → j < length ts → 0 < length (task ts j)
   pub complete : (j b : ℕ) → j < length ts → b < length (task ts j) → OnCompletePath (task ts j) b
-  pub apart : (i j : ℕ) → i ≢ j → Share (task ts i) (task ts j) → ⊥
   pub real : (j : ℕ) → All Real (memoryBlocks (task ts j))

@@ -1,4 +1,3 @@
-pub mod Distinct
-pub mod UsedSets
+pub mod ReplacedSets
 pub mod Meeting
 pub mod PairNumbers

@@ -1,92 +1,68 @@
--- The most that the useful sets of a task have in common with the used sets of another is the pair number: `pair-number`.
--- The idea: the sets are exactly those of the rows that paths make at unmasked blocks, and the pair number is the one number that bounds them
+-- The most over the gathered rows of a task and the end rows of another is the pair number: `pair-number`.
+-- The idea: the rows are exactly those that paths make, at unmasked blocks, and the pair number is the one number that bounds what they count
 -- and is attained.
-use mathlib.Core.Path.{_≡_, refl, sym, ap₂, _∙_}
+use mathlib.Core.Path.{_≡_, refl, sym, ap, _∙_}
 use mathlib.Core.Logic.{_⊎_, inl, inr}
 use mathlib.Core.Bool.{Bool, true, false, cond, false≢true}
-use mathlib.Core.List.{List, [], _∷_, _++_, map}
-use Prim.Native.Nat.{ℕ, zero, suc, _+_, _≤_, _<_}
+use mathlib.Core.List.{List, [], _∷_}
+use Prim.Native.Nat.{ℕ, zero, suc, _+_, _≤_, _<_, max}
 use native.Mathlib.Nat.{not-suc-le-zero, le-trans, zero-add, add-zero}
 use native.Mathlib.Omega.{arith}
-use lib.Dec.{eqb}
+use lib.Dec.{ltb}
 use lib.ListN.{length}
 use lib.Bits.{bitAnd}
 use lib.Count.{ones}
-use borrow.Author.Tests.{eqb-true}
+use borrow.Author.Tests.{ltb-true, ltb-false}
 use Rattle.cache.specs.Cache.{Cache}
-use Rattle.cache.specs.Sets.{useful, used, usefulUsed, bits, inSet}
-use Rattle.cache.proofs.Bits.{ones-useful-used}
+use Rattle.cache.specs.Sets.{useful, replaces, usefulReplaced, bits, inSet}
+use Rattle.cache.proofs.Bits.{ones-useful-replaced}
 use Rattle.model.specs.Lists.{mem, best}
 use Rattle.model.specs.Tasks.{Task, Unmasked, end}
 use Rattle.model.specs.States.{Reaches, Lives}
-use Rattle.model.specs.Numbers.{Rows, counted, Most}
+use Rattle.model.specs.Numbers.{Rows, counted}
 use Rattle.model.specs.Computed.{sameList, sorted, reaching, living, unmasked, pairNumber}
-use Rattle.model.proofs.Membership.{or-cases, or-left, or-right, eqb-self, sameList-self, sameList-true, mem-append-left, mem-append-right, mem-append-cases, mem-map, mem-of-map}
+use Rattle.model.proofs.Membership.{sameList-self, sameList-true}
 use Rattle.model.proofs.Paths.{path-last}
 use Rattle.model.proofs.Sorted.{sorted-has, sorted-only, reaching-rows, living-rows}
 use Rattle.model.proofs.Most.{best-le, best-attained, most-unique, unmasked-exact, pair-is}
 use Rattle.model.proofs.StatesWidth.{reaches-long}
-use Rattle.pairs.specs.Pairs.{usedSet, usefulSet, mostCommon, rowUseful, blockUseful, within, taskUseful}
+use Rattle.pairs.specs.Pairs.{usefulSet, replacedSet, replacedSets, mostCommon, rowMost, blockMost, within, taskMost}
 
--- ---- the useful sets of a block are those of its rows
+-- ---- the largest over the blocks of a task, and over the end rows
 
--- a useful set, with the rows that it is of
-record OfRows (rs ls : List (List ℕ)) (u : ℕ) : Type 0 where
-  pub r : List ℕ
-  pub l : List ℕ
-  pub reached : mem sameList r rs ≡ true
-  pub lived : mem sameList l ls ≡ true
-  pub is : u ≡ usefulSet r l
-
-block-has : (rs ls : List (List ℕ)) (r l : List ℕ) → mem sameList r rs ≡ true → mem sameList l ls ≡ true → mem eqb (usefulSet r l) (blockUseful rs ls) ≡ true
-block-has [] ls r l p q = absurd (false≢true p)
-block-has (x ∷ rs) ls r l p q = go (or-cases (sameList r x) (mem sameList r rs) p) (λ h. block-has rs ls r l h q)
-  where
-    go : (sameList r x ≡ true) ⊎ (mem sameList r rs ≡ true) → (mem sameList r rs ≡ true → mem eqb (usefulSet r l) (blockUseful rs ls) ≡ true)
-        → mem eqb (usefulSet r l) (rowUseful x ls ++ blockUseful rs ls) ≡ true
-    go (inl h) ih =
-        mem-append-left eqb eqb-self eqb-true (usefulSet r l) (rowUseful x ls) (blockUseful rs ls)
-        (rw (sameList-true r x h) (mem-map sameList sameList-self sameList-true eqb eqb-self eqb-true (usefulSet x) l ls q))
-    go (inr h) ih = mem-append-right eqb eqb-self eqb-true (usefulSet r l) (rowUseful x ls) (blockUseful rs ls) (ih h)
-
-block-only : (rs ls : List (List ℕ)) (u : ℕ) → mem eqb u (blockUseful rs ls) ≡ true → OfRows rs ls u
-block-only [] ls u e = absurd (false≢true e)
-block-only (x ∷ rs) ls u e = go (mem-append-cases eqb eqb-self eqb-true u (rowUseful x ls) (blockUseful rs ls) e) (λ h. block-only rs ls u h)
-  where
-    go : (mem eqb u (rowUseful x ls) ≡ true) ⊎ (mem eqb u (blockUseful rs ls) ≡ true) → (mem eqb u (blockUseful rs ls) ≡ true → OfRows rs ls u) → OfRows (x ∷ rs) ls u
-    go (inl h) ih =
-        let (l, q, z) = mem-of-map sameList sameList-self sameList-true eqb eqb-self eqb-true (usefulSet x) u ls h in
-        record { r = x; l = l; reached = or-left (sameList x x) (mem sameList x rs) (sameList-self x); lived = q; is = z }
-    go (inr h) ih =
-        let o = ih h in
-        record { r = o .r; l = o .l; reached = or-right (sameList (o .r) x) (mem sameList (o .r) rs) (o .reached); lived = o .lived; is = o .is }
-
-module _ (rs ls : ℕ → List (List ℕ)) where
-  task-has : (left b c u : ℕ) → c < left → mem eqb u (blockUseful (rs (b + c)) (ls (b + c))) ≡ true → mem eqb u (taskUseful rs ls left b) ≡ true
-  task-has zero b c u h e = absurd (not-suc-le-zero h)
-  task-has (suc left) b zero u h e =
-      mem-append-left eqb eqb-self eqb-true u (blockUseful (rs b) (ls b)) (taskUseful rs ls left (suc b)) (rw (add-zero b) at e)
-  task-has (suc left) b (suc c) u h e =
+module _ (rs ls : ℕ → List (List ℕ)) (fs : List (List ℕ)) where
+  task-le : (left b c : ℕ) → c < left → blockMost (rs (b + c)) (ls (b + c)) fs ≤ taskMost rs ls left b fs
+  task-le zero b c h = absurd (not-suc-le-zero h)
+  task-le (suc left) b zero h = rw (add-zero b) (omega arith)
+  task-le (suc left) b (suc c) h =
       let z : b + suc c ≡ suc b + c = omega arith in
-      mem-append-right eqb eqb-self eqb-true u (blockUseful (rs b) (ls b)) (taskUseful rs ls left (suc b))
-      (task-has left (suc b) c u (omega arith) (rw z at e))
+      rw z (omega (arith, task-le left (suc b) c (omega arith)))
 
-  task-only : (left b u : ℕ) → mem eqb u (taskUseful rs ls left b) ≡ true → (c : ℕ) × (c < b + left) × (mem eqb u (blockUseful (rs c) (ls c)) ≡ true)
-  task-only zero b u e = absurd (false≢true e)
-  task-only (suc left) b u e = go (mem-append-cases eqb eqb-self eqb-true u (blockUseful (rs b) (ls b)) (taskUseful rs ls left (suc b)) e) (λ h. task-only left (suc b) u h)
+  task-attained : (left b : ℕ) → (taskMost rs ls left b fs ≡ 0) ⊎ ((c : ℕ) × (c < b + left) × (blockMost (rs c) (ls c) fs ≡ taskMost rs ls left b fs))
+  task-attained zero b = inl refl
+  task-attained (suc left) b = go (ltb (taskMost rs ls left (suc b) fs) (blockMost (rs b) (ls b) fs)) refl (task-attained left (suc b))
     where
-      go : (mem eqb u (blockUseful (rs b) (ls b)) ≡ true) ⊎ (mem eqb u (taskUseful rs ls left (suc b)) ≡ true)
-          → (mem eqb u (taskUseful rs ls left (suc b)) ≡ true → (c : ℕ) × (c < suc b + left) × (mem eqb u (blockUseful (rs c) (ls c)) ≡ true))
-          → (c : ℕ) × (c < b + suc left) × (mem eqb u (blockUseful (rs c) (ls c)) ≡ true)
-      go (inl h) ih = (b, omega arith, h)
-      go (inr h) ih = let (c, q, z) = ih h in (c, omega (arith, q), z)
+      first : ℕ
+      first = blockMost (rs b) (ls b) fs
+
+      later : ℕ
+      later = taskMost rs ls left (suc b) fs
+
+      go : (x : Bool) → ltb later first ≡ x → (later ≡ 0) ⊎ ((c : ℕ) × (c < suc b + left) × (blockMost (rs c) (ls c) fs ≡ later))
+          → (max first later ≡ 0) ⊎ ((c : ℕ) × (c < b + suc left) × (blockMost (rs c) (ls c) fs ≡ max first later))
+      go true e ih = inr (b, omega arith, omega (arith, ltb-true later first e))
+      go false e (inl z) = inl (omega (arith, ltb-false later first e))
+      go false e (inr (c, h, q)) = inr (c, omega (arith, h), omega (arith, q, ltb-false later first e))
+
+over-ends : (u : ℕ) (r : List ℕ) (fs : List (List ℕ)) → mostCommon u (replacedSets r fs) ≡ best (λ (f : List ℕ). ones (bitAnd u (replacedSet f r))) fs
+over-ends u r [] = refl
+over-ends u r (f ∷ fs) = ap (max (ones (bitAnd u (replacedSet f r)))) (over-ends u r fs)
 
 -- ---- the number
 
 -- of rows as wide as the cache's
-pub counts-as : (k : Cache) (r l f : List ℕ) → length r ≡ k .width → length f ≡ k .width → ones (bitAnd (usefulSet r l) (usedSet f)) ≡ usefulUsed k r l f
-counts-as k r l f p q =
-    ap₂ (λ (x y : ℕ). ones (bitAnd (bits x (useful r l)) (bits y (used f)))) p q ∙ ones-useful-used k r l f
+pub counts-as : (k : Cache) (r l f : List ℕ) → length r ≡ k .width → ones (bitAnd (usefulSet r l) (replacedSet f r)) ≡ usefulReplaced k r l f
+counts-as k r l f p = ap (λ (w : ℕ). ones (bitAnd (bits w (useful r l)) (bits w (replaces f r)))) p ∙ ones-useful-replaced k r l f
 
 -- rows are those of a block of the set
 within-rows : (set : ℕ) (rs : ℕ → List (List ℕ)) (b : ℕ) (r : List ℕ) → mem sameList r (within set rs b) ≡ true → (inSet set b ≡ true) × (mem sameList r (rs b) ≡ true)
@@ -96,61 +72,80 @@ within-rows set rs b r e = go (inSet set b) refl e
     go true q e = (q, e)
     go false q e = absurd (false≢true e)
 
-module _ (k : Cache) (i j : Task) (set : ℕ) (rs ls : ℕ → List (List ℕ)) (vs : List ℕ) (marks : (b : ℕ) → b < length i → inSet set b ≡ unmasked i b)
+module _ (k : Cache) (i j : Task) (set : ℕ) (rs ls : ℕ → List (List ℕ)) (fs : List (List ℕ)) (marks : (b : ℕ) → b < length i → inSet set b ≡ unmasked i b)
     (reached : (b : ℕ) → b < length i → sorted (rs b) ≡ reaching k i b) (lived : (b : ℕ) → b < length i → sorted (ls b) ≡ living k i b)
-    (sets : (v : ℕ) → mem eqb v vs ≡ mem eqb v (map usedSet (reaching k j (end j)))) where
-  abbrev us : List ℕ
-  us = taskUseful (within set rs) ls (length i) 0
-
+    (ended : sorted fs ≡ reaching k j (end j)) where
   abbrev number : ℕ
-  number = best (λ (u : ℕ). mostCommon u vs) us
+  number = taskMost (within set rs) ls (length i) 0 fs
 
-  bound : (x : Rows k i j) → Unmasked i (x .at) → counted (usefulUsed k) x ≤ number
+  abbrev overEnds : List ℕ → List ℕ → ℕ
+  overEnds r l = mostCommon (usefulSet r l) (replacedSets r fs)
+
+  abbrev Attained : Type 0
+  Attained = (number ≡ 0) ⊎ ((x : Rows k i j) × Unmasked i (x .at) × (counted (usefulReplaced k) x ≡ number))
+
+  bound : (x : Rows k i j) → Unmasked i (x .at) → counted (usefulReplaced k) x ≤ number
   bound x free =
+      let b = x .at in
+      let r = x .reaching in
+      let l = x .live in
+      let f = x .ending in
       let inside = path-last i (x .reaches .1) in
-      let r-in = sorted-only (rs (x .at)) (x .reaching) (rw (reached (x .at) inside) (reaching-rows k i (x .at) (x .reaching) .1 (x .reaches))) in
-      let l-in = sorted-only (ls (x .at)) (x .live) (rw (lived (x .at) inside) (living-rows k i (x .at) (x .live) .1 (x .lives))) in
-      let f-in = reaching-rows k j (end j) (x .ending) .1 (x .ends) in
-      let open-at : within set rs (x .at) ≡ rs (x .at) = rw (marks (x .at) inside, unmasked-exact i (x .at) .1 free) in
-      let u = usefulSet (x .reaching) (x .live) in
-      let v = usedSet (x .ending) in
-      let u-in = task-has (within set rs) ls (length i) 0 (x .at) u inside (rw (zero-add (x .at), open-at) (block-has (rs (x .at)) (ls (x .at)) (x .reaching) (x .live) r-in l-in)) in
-      let v-in = sets v ∙ mem-map sameList sameList-self sameList-true eqb eqb-self eqb-true usedSet (x .ending) (reaching k j (end j)) f-in in
-      rw (← counts-as k (x .reaching) (x .live) (x .ending) (reaches-long k i (x .at) (x .reaching) (x .reaches)) (reaches-long k j (end j) (x .ending) (x .ends)))
-      (le-trans (best-le eqb eqb-self eqb-true (λ (w : ℕ). ones (bitAnd u w)) v vs v-in) (best-le eqb eqb-self eqb-true (λ (w : ℕ). mostCommon w vs) u us u-in))
+      let r-in = sorted-only (rs b) r (rw (reached b inside) (reaching-rows k i b r .1 (x .reaches))) in
+      let l-in = sorted-only (ls b) l (rw (lived b inside) (living-rows k i b l .1 (x .lives))) in
+      let f-in = sorted-only fs f (rw ended (reaching-rows k j (end j) f .1 (x .ends))) in
+      let open-at : within set rs b ≡ rs b = rw (marks b inside, unmasked-exact i b .1 free) in
+      let one = best-le sameList sameList-self sameList-true (λ (y : List ℕ). ones (bitAnd (usefulSet r l) (replacedSet y r))) f fs f-in in
+      let two = best-le sameList sameList-self sameList-true (overEnds r) l (ls b) l-in in
+      let three = best-le sameList sameList-self sameList-true (λ (y : List ℕ). rowMost y (ls b) fs) r (rs b) r-in in
+      let four : blockMost (rs b) (ls b) fs ≤ number = rw (zero-add b, open-at) at (task-le (within set rs) ls fs (length i) 0 b inside) in
+      rw (← counts-as k r l f (reaches-long k i b r (x .reaches)))
+      (le-trans one (rw (← over-ends (usefulSet r l) r fs) (le-trans two (le-trans three four))))
 
-  attained : (number ≡ 0) ⊎ ((x : Rows k i j) × Unmasked i (x .at) × (counted (usefulUsed k) x ≡ number))
-  attained = go (best-attained eqb eqb-self eqb-true (λ (u : ℕ). mostCommon u vs) us)
+  attained-ends : (b : ℕ) (r l : List ℕ) → Unmasked i b → Reaches k i b r → Lives k i b l → overEnds r l ≡ number
+      → (best (λ (f : List ℕ). ones (bitAnd (usefulSet r l) (replacedSet f r))) fs ≡ 0)
+      ⊎ ((f : List ℕ) × (mem sameList f fs ≡ true) × (ones (bitAnd (usefulSet r l) (replacedSet f r)) ≡ best (λ (f : List ℕ). ones (bitAnd (usefulSet r l) (replacedSet f r))) fs))
+      → Attained
+  attained-ends b r l free hr hl e (inl z) = inl (sym e ∙ over-ends (usefulSet r l) r fs ∙ z)
+  attained-ends b r l free hr hl e (inr (f, p, q)) =
+      inr (
+        record {
+          at = b;
+          reaching = r;
+          live = l;
+          ending = f;
+          reaches = hr;
+          lives = hl;
+          ends = reaching-rows k j (end j) f .0 (rw (← ended) (sorted-has fs f p));
+        },
+        free,
+        sym (counts-as k r l f (reaches-long k i b r hr)) ∙ q ∙ sym (over-ends (usefulSet r l) r fs) ∙ e,
+      )
+
+  attained-live : (b : ℕ) (r : List ℕ) → b < length i → Unmasked i b → Reaches k i b r → rowMost r (ls b) fs ≡ number
+      → (rowMost r (ls b) fs ≡ 0) ⊎ ((l : List ℕ) × (mem sameList l (ls b) ≡ true) × (overEnds r l ≡ rowMost r (ls b) fs)) → Attained
+  attained-live b r inside free hr e (inl z) = inl (sym e ∙ z)
+  attained-live b r inside free hr e (inr (l, p, q)) =
+      attained-ends b r l free hr (living-rows k i b l .0 (rw (← lived b inside) (sorted-has (ls b) l p))) (q ∙ e)
+      (best-attained sameList sameList-self sameList-true (λ (f : List ℕ). ones (bitAnd (usefulSet r l) (replacedSet f r))) fs)
+
+  attained-reaching : (b : ℕ) → b < length i → blockMost (within set rs b) (ls b) fs ≡ number
+      → (blockMost (within set rs b) (ls b) fs ≡ 0)
+      ⊎ ((r : List ℕ) × (mem sameList r (within set rs b) ≡ true) × (rowMost r (ls b) fs ≡ blockMost (within set rs b) (ls b) fs))
+      → Attained
+  attained-reaching b inside e (inl z) = inl (sym e ∙ z)
+  attained-reaching b inside e (inr (r, p, q)) =
+      let (marked, r-in) = within-rows set rs b r p in
+      attained-live b r inside (unmasked-exact i b .0 (sym (marks b inside) ∙ marked)) (reaching-rows k i b r .0 (rw (← reached b inside) (sorted-has (rs b) r r-in))) (q ∙ e)
+      (best-attained sameList sameList-self sameList-true (overEnds r) (ls b))
+
+  attained : Attained
+  attained = go (task-attained (within set rs) ls fs (length i) 0)
     where
-      over : (u : ℕ) → mem eqb u us ≡ true → mostCommon u vs ≡ number
-          → (mostCommon u vs ≡ 0) ⊎ ((v : ℕ) × (mem eqb v vs ≡ true) × (ones (bitAnd u v) ≡ mostCommon u vs))
-          → (number ≡ 0) ⊎ ((x : Rows k i j) × Unmasked i (x .at) × (counted (usefulUsed k) x ≡ number))
-      over u p e (inl z) = inl (sym e ∙ z)
-      over u p e (inr (v, q, m)) =
-          let (b, h, w) = task-only (within set rs) ls (length i) 0 u p in
-          let inside : b < length i = omega (arith, h) in
-          let o = block-only (within set rs b) (ls b) u w in
-          let (marked, r-in) = within-rows set rs b (o .r) (o .reached) in
-          let (f, f-in, fe) = mem-of-map sameList sameList-self sameList-true eqb eqb-self eqb-true usedSet v (reaching k j (end j)) (sym (sets v) ∙ q) in
-          let reaches = reaching-rows k i b (o .r) .0 (rw (← reached b inside) (sorted-has (rs b) (o .r) r-in)) in
-          let ends = reaching-rows k j (end j) f .0 f-in in
-          inr (
-            record {
-              at = b;
-              reaching = o .r;
-              live = o .l;
-              ending = f;
-              reaches = reaches;
-              lives = living-rows k i b (o .l) .0 (rw (← lived b inside) (sorted-has (ls b) (o .l) (o .lived)));
-              ends = ends;
-            },
-            unmasked-exact i b .0 (sym (marks b inside) ∙ marked),
-            sym (counts-as k (o .r) (o .l) f (reaches-long k i b (o .r) reaches) (reaches-long k j (end j) f ends)) ∙ rw (← (o .is), ← fe) m ∙ e,
-          )
-
-      go : (number ≡ 0) ⊎ ((u : ℕ) × (mem eqb u us ≡ true) × (mostCommon u vs ≡ number)) → (number ≡ 0) ⊎ ((x : Rows k i j) × Unmasked i (x .at) × (counted (usefulUsed k) x ≡ number))
+      go : (number ≡ 0) ⊎ ((b : ℕ) × (b < 0 + length i) × (blockMost (within set rs b) (ls b) fs ≡ number)) → Attained
       go (inl z) = inl z
-      go (inr (u, p, e)) = over u p e (best-attained eqb eqb-self eqb-true (λ (v : ℕ). ones (bitAnd u v)) vs)
+      go (inr (b, h, e)) =
+          attained-reaching b (omega (arith, h)) e (best-attained sameList sameList-self sameList-true (λ (r : List ℕ). rowMost r (ls b) fs) (within set rs b))
 
-  pub pair-number : best (λ (u : ℕ). mostCommon u vs) (taskUseful (within set rs) ls (length i) 0) ≡ pairNumber k i j
-  pair-number = most-unique (usefulUsed k) k i j (Unmasked i) number (pairNumber k i j) (record { bound = bound; attained = attained }) (pair-is k i j)
+  pub pair-number : taskMost (within set rs) ls (length i) 0 fs ≡ pairNumber k i j
+  pair-number = most-unique (usefulReplaced k) k i j (Unmasked i) number (pairNumber k i j) (record { bound = bound; attained = attained }) (pair-is k i j)

@@ -1,14 +1,16 @@
--- Document 01, "Paths and cache": the sets of cache blocks useful in and used by tasks, and the most that they have in common. Definitions only.
+-- Document 01, "Paths and cache", and document 02, Point 5: the sets of cache blocks useful in and replaced by tasks, and the most that they have
+-- in common. Definitions only.
 use mathlib.Core.Path.{_≡_}
-use mathlib.Core.Bool.{cond}
-use mathlib.Core.List.{List, [], _∷_, _++_, map}
+use mathlib.Core.Bool.{Bool, false, _||_, cond}
+use mathlib.Core.List.{List, [], _∷_, map}
 use Prim.Native.Nat.{ℕ, zero, suc, _*_, _≤_, _<_, max}
-use lib.Dec.{eqb}
-use lib.ListN.{length, getD, take, drop}
+use lib.ListN.{length, getD}
 use lib.Bits.{bitAnd}
 use lib.Count.{ones}
-use Rattle.cache.specs.Sets.{useful, used, bits, inSet}
-use Rattle.model.specs.Lists.{mem, best}
+use Rattle.cache.specs.Sets.{useful, used, replaces, bits, inSet}
+use Rattle.model.specs.Lists.{best}
+use Rattle.rows.specs.Rows.{Width}
+use Rattle.gather.specs.Memory.{heldRows}
 
 -- the used set of a row, and the useful set of a reaching and a live row
 abbrev pub usedSet : List ℕ → ℕ
@@ -17,49 +19,66 @@ usedSet row = bits (length row) (used row)
 abbrev pub usefulSet : List ℕ → List ℕ → ℕ
 usefulSet reaching live = bits (length reaching) (useful reaching live)
 
--- the numbers of a list that are not in `old`, each once, in the order in which they first come
-abbrev pub distinct : List ℕ → List ℕ → List ℕ
-distinct old [] = []
-distinct old (x ∷ xs) = cond (mem eqb x old) (distinct old xs) (x ∷ distinct (old ++ (x ∷ [])) xs)
+-- the cache blocks of a reaching row r where the end row f "holds something there other than" what r holds, and those of each of some end rows
+abbrev pub replacedSet : List ℕ → List ℕ → ℕ
+replacedSet f r = bits (length r) (replaces f r)
+
+abbrev pub replacedSets : List ℕ → List (List ℕ) → List ℕ
+replacedSets r fs = map (λ (f : List ℕ). replacedSet f r) fs
+
+-- whether one of the rows passes the test
+abbrev pub anyRow : (List ℕ → Bool) → List (List ℕ) → Bool
+anyRow test [] = false
+anyRow test (f ∷ fs) = test f || anyRow test fs
+
+-- whether one of the end rows replaces what r holds at the cache block c, and whether one of them uses c
+abbrev pub someReplaces : List (List ℕ) → List ℕ → ℕ → Bool
+someReplaces fs r c = anyRow (λ (f : List ℕ). replaces f r c) fs
+
+abbrev pub someUses : List (List ℕ) → ℕ → Bool
+someUses fs c = anyRow (λ (f : List ℕ). used f c) fs
 
 -- the most cache blocks that a set has in common with one of some sets
 abbrev pub mostCommon : ℕ → List ℕ → ℕ
 mostCommon u vs = best (λ (v : ℕ). ones (bitAnd u v)) vs
 
--- the useful sets of a reaching row with each live row, and of all rows of a block
-abbrev pub rowUseful : List ℕ → List (List ℕ) → List ℕ
-rowUseful r ls = map (usefulSet r) ls
+-- no useful set of the reaching row r has more in common with one of the sets than with `all`
+abbrev pub Covered : List ℕ → List ℕ → ℕ → Type 0
+Covered r vs all = (l : List ℕ) → mostCommon (usefulSet r l) vs ≤ ones (bitAnd (usefulSet r l) all)
 
-abbrev pub blockUseful : List (List ℕ) → List (List ℕ) → List ℕ
-blockUseful [] ls = []
-blockUseful (r ∷ rs) ls = rowUseful r ls ++ blockUseful rs ls
+-- the most cache blocks that are useful in one task and replaced by another, which ends with the rows fs: for a reaching row with each of the
+-- live rows ls, for each reaching row of a block
+abbrev pub rowMost : List ℕ → List (List ℕ) → List (List ℕ) → ℕ
+rowMost r ls fs = best (λ (l : List ℕ). mostCommon (usefulSet r l) (replacedSets r fs)) ls
+
+abbrev pub blockMost : List (List ℕ) → List (List ℕ) → List (List ℕ) → ℕ
+blockMost rs ls fs = best (λ (r : List ℕ). rowMost r ls fs) rs
 
 -- the rows of the blocks of a set: none of any other block
 abbrev pub within : ℕ → (ℕ → List (List ℕ)) → ℕ → List (List ℕ)
 within set rows b = cond (inSet set b) (rows b) []
 
--- the useful sets of `left` blocks from b on, given the reaching and the live rows of each block
-abbrev pub taskUseful : (ℕ → List (List ℕ)) → (ℕ → List (List ℕ)) → ℕ → ℕ → List ℕ
-taskUseful rs ls zero b = []
-taskUseful rs ls (suc left) b = blockUseful (rs b) (ls b) ++ taskUseful rs ls left (suc b)
+-- the same most for `left` blocks from b on, given the reaching and the live rows of each block
+abbrev pub taskMost : (ℕ → List (List ℕ)) → (ℕ → List (List ℕ)) → ℕ → ℕ → List (List ℕ) → ℕ
+taskMost rs ls zero b fs = 0
+taskMost rs ls (suc left) b fs = max (blockMost (rs b) (ls b) fs) (taskMost rs ls left (suc b) fs)
 
--- the used sets of task j in one list for all tasks: they stand from 32 j on, as many as its count
-abbrev pub usedOf : List ℕ → List ℕ → ℕ → List ℕ
-usedOf sets counts j = take (getD counts j 0) (drop (32 * j) sets)
+-- the end rows of task j in one list for all tasks: they stand from 32 w j on, as many as its count
+abbrev pub endsOf : ℕ → List ℕ → List ℕ → ℕ → List (List ℕ)
+endsOf w ends counts j = heldRows w ends counts j
 
--- one list for at most 8 tasks, with at most 32 used sets for each
-pub record UsedSets (sets counts : List ℕ) (tasks : ℕ) : Type 0 where
-  pub long : length sets ≡ 256
+-- one list for at most 8 tasks, with at most 32 end rows of w numbers for each, and the union of the used sets of the end rows of each
+pub record EndRows (w : ℕ) (ends counts unions : List ℕ) (tasks : ℕ) : Type 0 where
+  pub width : Width w
+  pub long : length ends ≡ 8 * (32 * w)
   pub many : length counts ≡ 8
+  pub each : length unions ≡ 8
   pub few : (j : ℕ) → j < 8 → getD counts j 0 ≤ 32
+  pub joined : (j : ℕ) → j < 8 → getD unions j 0 ≡ bits w (someUses (endsOf w ends counts j))
   pub inside : tasks ≤ 8
 
--- what the numbers of a task become when the sets us are met by the used sets of each task below `tasks`
-pub record Met (us sets counts : List ℕ) (tasks : ℕ) (old new : List ℕ) : Type 0 where
+-- what the numbers of a task become for each task below `tasks`: the larger of the number and the most over the end rows of that task
+pub record Met (most : List (List ℕ) → ℕ) (w : ℕ) (ends counts : List ℕ) (tasks : ℕ) (old new : List ℕ) : Type 0 where
   pub long : length new ≡ length old
-  pub each : (j : ℕ) → j < tasks → getD new j 0 ≡ max (getD old j 0) (best (λ (u : ℕ). mostCommon u (usedOf sets counts j)) us)
+  pub each : (j : ℕ) → j < tasks → getD new j 0 ≡ max (getD old j 0) (most (endsOf w ends counts j))
   pub rest : (j : ℕ) → tasks ≤ j → getD new j 0 ≡ getD old j 0
-
--- a room of sets that were met before: each number of it, taken as a set, would not raise the numbers of a task
-pub record Absorbed (met sets counts : List ℕ) (tasks : ℕ) (numbers : List ℕ) : Type 0 where
-  pub each : (at : ℕ) → at < 1024 → (j : ℕ) → j < tasks → mostCommon (getD met at 0) (usedOf sets counts j) ≤ getD numbers j 0

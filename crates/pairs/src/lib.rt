@@ -1,3 +1,3 @@
 // The numbers of one task against all tasks, from gathered rows.
 pub mod numbers;
-pub mod used;
+pub mod replaced;

@@ -4,6 +4,9 @@ use example_files::APART;
 use example_files::EIGHT;
 use example_files::MASKED;
 use example_files::ONE;
+use example_files::SHARED_BOTH;
+use example_files::SHARED_GAIN;
+use example_files::SHARED_SAME;
 use example_files::SIX_FORKS_OF_TASK_1;
 use example_files::WIDE;
 use example_files::with_byte;
@@ -38,7 +41,6 @@ fn show_refused() {
     show_changed(b"# E, byte 0 = 44\n", 0, 0x44);
     show_changed(b"# E, byte 21 = 01\n", 21, 0x01);
     show(b"# two blocks, no successors\n", &APART);
-    show_changed(b"# E, byte 31 = 00\n", 31, 0x00);
 }
 
 // Files that it accepts.
@@ -56,8 +58,17 @@ fn show_masked() {
     show(b"# three blocks, the second masked\n", &MASKED);
 }
 
+// Files whose tasks share a memory block.
+fn show_shared() {
+    show_changed(b"# E, byte 31 = 00: memory block 0 shared\n", 31, 0x00);
+    show(b"# an empty block, then a shared one\n", &SHARED_GAIN);
+    show(b"# one of two memory blocks shared\n", &SHARED_BOTH);
+    show(b"# a loop over the shared memory block\n", &SHARED_SAME);
+}
+
 fn main() {
     show_refused();
     show_accepted();
     show_masked();
+    show_shared();
 }

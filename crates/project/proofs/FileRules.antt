@@ -1,8 +1,7 @@
 -- The tasks of an accepted file keep the rules: `file-rules`. So demand 3 holds of them, and equal n and tasks give equal pair numbers.
--- The idea: checks 8, 9 and 10 that pass are the rules, body by body.
-use mathlib.Core.Path.{_≡_, refl, ap, subst, _∙_}
-use mathlib.Core.Logic.{_≢_}
-use mathlib.Core.Bool.{Bool, true, false, false≢true}
+-- The idea: checks 8 and 9 that pass are the rules, body by body.
+use mathlib.Core.Path.{_≡_, refl, ap, _∙_}
+use mathlib.Core.Bool.{Bool, true, false}
 use mathlib.Core.List.{List, [], _∷_, map}
 use Prim.Native.Nat.{ℕ, zero, suc, _≤_, _<_}
 use native.Mathlib.Nat.{not-suc-le-zero}
@@ -12,24 +11,22 @@ use lib.ListN.{length, length-map, List·getD-eq-default}
 use borrow.Author.Tests.{ltb-true, ltb-false, not-false}
 use Rattle.cache.specs.References.{Real, All}
 use Rattle.model.specs.Lists.{Each}
-use Rattle.model.specs.Tasks.{Task, OnCompletePath, memoryBlocks, Share, task, Rules}
+use Rattle.model.specs.Tasks.{Task, OnCompletePath, memoryBlocks, task, Rules}
 use Rattle.model.specs.Demand.{Demand3}
 use Rattle.model.specs.OnPath.{allOnPath}
 use Rattle.model.proofs.OnPath.{allOnPath-exact}
 use Rattle.model.proofs.Demand.{demand-3}
-use Rattle.body.specs.Layout.{InBounds, bodyBytes}
+use Rattle.body.specs.Layout.{InBounds}
 use Rattle.body.specs.Decode.{decoded, decode, taskOf}
-use Rattle.body.proofs.Decoded.{decoded-layout, decoded-real}
+use Rattle.body.proofs.Decoded.{decoded-bounds, decoded-real}
 use Rattle.project.specs.declared.answers.Check.the-variants.{Passed}
 use Rattle.project.specs.declared.answers.Reading.the-variants.{Accepted}
-use Rattle.project.specs.File.{cacheBlocks, taskCount, bodies}
-use Rattle.project.specs.Checks.{body, Fault10}
-use Rattle.project.specs.Checklist.{Verdict, lowest}
-use Rattle.project.specs.Reading.{test8, test9, taskChecks, tasksCheck, readingOf}
+use Rattle.project.specs.File.{cacheBlocks, bodies}
+use Rattle.project.specs.Checks.{body}
+use Rattle.project.specs.Checklist.{lowest}
+use Rattle.project.specs.Reading.{test8, test9, tasksCheck, readingOf}
 use Rattle.project.specs.Tasks.{tasksIn, tasksOf, fileCache, filePair}
-use Rattle.project.proofs.Checklists.{verdict-exact}
-use Rattle.project.proofs.TaskFaults.{Bytes, kept-task, tasks-agreeing}
-use Rattle.project.proofs.Verdicts.{bodies-bytes}
+use Rattle.project.proofs.TaskFaults.{Bytes, kept-task}
 use Rattle.project.proofs.Accepted.{then-passed, none-lowest, tasks-kept, passing, accepted-passed}
 
 pub each-at : (P : List ℕ → Type 0) (bs : List (List ℕ)) → Each P bs → (j : ℕ) → j < length bs → P (body bs j)
@@ -46,7 +43,7 @@ task-in (b ∷ bs) (suc j) = task-in bs j
 beyond : (bs : List (List ℕ)) (j : ℕ) → length bs ≤ j → task (tasksIn bs) j ≡ []
 beyond bs j h = List·getD-eq-default (tasksIn bs) [] {n = j} (rw length-map h)
 
-module _ (bs : List (List ℕ)) (bytes : (i : ℕ) → i < length bs → Bytes (body bs i)) (ok : tasksCheck bs ≡ Passed) where
+module _ (bs : List (List ℕ)) (ok : tasksCheck bs ≡ Passed) where
   kept : (j : ℕ) → j < length bs → test8 (body bs j) ≡ false
   kept = each-at (λ (b : List ℕ). test8 b ≡ false) bs (tasks-kept bs ok)
 
@@ -55,40 +52,17 @@ module _ (bs : List (List ℕ)) (bytes : (i : ℕ) → i < length bs → Bytes (
       each-at (λ (b : List ℕ). test9 b ≡ false) bs
       (none-lowest 9 0 test9 bs (then-passed (lowest 9 0 (map test9 bs)) _ (then-passed (lowest 8 0 (map test8 bs)) _ ok .1) .0))
 
-  no-sharing : (j : ℕ) → Fault10 bs j → ⊥
-  no-sharing = subst (Verdict (taskChecks bs)) ok (verdict-exact (taskChecks bs) (tasks-agreeing bs bytes)) .1 .1 .0
-
-  -- the task of body j, with its bytes
+  -- the task of body j
   pub record At (j : ℕ) : Type 0 where
     pub its : Task
     pub decodes : decode (body bs j) ≡ decoded its
     pub same : task (tasksIn bs) j ≡ its
     pub bounds : InBounds its
-    pub bytes-of : body bs j ≡ bodyBytes its
 
   pub at : (j : ℕ) → j < length bs → At j
   at j l =
       let (t, q) = kept-task (body bs j) (kept j l) in
-      let (i, z) = decoded-layout (body bs j) t (bytes j l) q in
-      record { its = t; decodes = q; same = task-in bs j ∙ ap taskOf q; bounds = i; bytes-of = z }
-
-  low-high : (i j : ℕ) → i < j → Share (task (tasksIn bs) i) (task (tasksIn bs) j) → ⊥
-  low-high i j l (m, p, q) = go (ltb j (length bs)) refl
-    where
-      go : (s : Bool) → ltb j (length bs) ≡ s → ⊥
-      go false e = false≢true (rw (beyond bs j (ltb-false j (length bs) e)) at q)
-      go true e =
-          let h = ltb-true j (length bs) e in
-          let a = at i (omega arith) in
-          let b = at j h in
-          no-sharing j (h, i, l, a .its, a .bytes-of, a .bounds, b .its, b .bytes-of, b .bounds, (m, rw (a .same) at p, rw (b .same) at q))
-
-  apart : (i j : ℕ) → i ≢ j → Share (task (tasksIn bs) i) (task (tasksIn bs) j) → ⊥
-  apart i j n (m, p, q) = go (ltb i j) refl
-    where
-      go : (s : Bool) → ltb i j ≡ s → ⊥
-      go true e = low-high i j (ltb-true i j e) (m, p, q)
-      go false e = low-high j i (omega (arith, ltb-false i j e, n)) (m, q, p)
+      record { its = t; decodes = q; same = task-in bs j ∙ ap taskOf q; bounds = decoded-bounds (body bs j) t q }
 
   real : (j : ℕ) → All Real (memoryBlocks (task (tasksIn bs) j))
   real j = go (ltb j (length bs)) refl
@@ -107,14 +81,12 @@ module _ (bs : List (List ℕ)) (bytes : (i : ℕ) → i < length bs → Bytes (
   bodies-rules = record {
     some = λ j l. some j (rw length-map at l);
     complete = λ j b l h. on-complete j b (rw length-map at l) h;
-    apart = apart;
     real = real;
   }
 
 -- the tasks of an accepted file
 pub file-rules : (s : List ℕ) → Bytes s → (n t : ℕ) → readingOf s ≡ Accepted n t → Rules (tasksOf s)
-file-rules s h n t e =
-    bodies-rules (bodies s) (bodies-bytes s h (taskCount s) 0) (passing s (accepted-passed s n t e .0) .tasks)
+file-rules s h n t e = bodies-rules (bodies s) (passing s (accepted-passed s n t e .0) .tasks)
 
 -- demand 3 of an accepted file
 pub file-demand-3 : (s : List ℕ) → Bytes s → (n t : ℕ) → readingOf s ≡ Accepted n t → Demand3 (fileCache s) (tasksOf s)

@@ -1,5 +1,5 @@
 -- The tests of Reader's checks hold exactly when their faults are there: `file-agreeing`. So what Reader answers is the verdict: `reader-verdict`.
--- The idea: each of the checks 2 to 6 is a comparison of numbers or lists; 7 is that of the contents, 8 to 10 those of the bodies.
+-- The idea: each of the checks 2 to 6 is a comparison of numbers or lists; 7 is that of the contents, 8 and 9 those of the bodies.
 use mathlib.Core.Path.{_≡_, refl, sym, ap, _∙_}
 use mathlib.Core.Logic.{_≢_, _⊎_, inl, inr, _↔_}
 use mathlib.Core.Bool.{Bool, true, false, not, _||_, true≢false}
@@ -94,7 +94,7 @@ exact7 s none = (there, λ f. go (contentsFit s (taskCount s) 0 (8 + 4 * taskCou
 -- ---- the whole file
 
 -- each body is made of bytes of the file
-pub bodies-bytes : (s : List ℕ) → Bytes s → (left j i : ℕ) → i < length (bodiesFrom s left j) → Bytes (body (bodiesFrom s left j) i)
+bodies-bytes : (s : List ℕ) → Bytes s → (left j i : ℕ) → i < length (bodiesFrom s left j) → Bytes (body (bodiesFrom s left j) i)
 bodies-bytes s h zero j i l = absurd (omega arith)
 bodies-bytes s h (suc left) j zero l = all-take _ (sizeOf s j) _ (all-drop _ (offsetOf s j) s h)
 bodies-bytes s h (suc left) j (suc i) l = bodies-bytes s h left (suc j) i (omega arith)
@@ -120,6 +120,6 @@ filling-verdict es h = go (verdictOf es) (verdict-exact es h)
     go Passed v = v
     go (Failed c a) v = v
 
--- "Reader checks 2 to 10."
-pub reader-order : (s : List ℕ) → numbers (fileChecks s) ≡ 2 ∷ 3 ∷ 4 ∷ 5 ∷ 6 ∷ 7 ∷ 8 ∷ 9 ∷ 10 ∷ []
+-- "Reader checks 2 to 10."; document 02, Point 5: "so 10 is never given any more"
+pub reader-order : (s : List ℕ) → numbers (fileChecks s) ≡ 2 ∷ 3 ∷ 4 ∷ 5 ∷ 6 ∷ 7 ∷ 8 ∷ 9 ∷ []
 reader-order s = refl

@@ -4,7 +4,7 @@ use mathlib.Core.Logic.{_≢_, _⊎_}
 use mathlib.Core.List.{List, []}
 use Prim.Native.Nat.{ℕ, suc, _+_, _*_, _<_}
 use lib.ListN.{length, getD, take}
-use Rattle.model.specs.Tasks.{Task, OnCompletePath, Share}
+use Rattle.model.specs.Tasks.{Task, OnCompletePath}
 use Rattle.body.specs.Layout.{Body, Layout, InBounds, bodyBytes}
 use Rattle.project.specs.File.{File, mark, edition, taskCount, offsetOf, sizeOf}
 
@@ -54,7 +54,5 @@ Fault8 s = Layout s → ⊥
 abbrev pub Fault9 : Body → Type 0
 Fault9 s = (t : Task) × (s ≡ bodyBytes t) × InBounds t × (b : ℕ) × (b < length t) × (OnCompletePath t b → ⊥)
 
--- "two tasks share a memory block": task j with an earlier one
-abbrev pub Fault10 : List Body → ℕ → Type 0
-Fault10 bs j =
-    (j < length bs) × (i : ℕ) × (i < j) × (t : Task) × (body bs i ≡ bodyBytes t) × InBounds t × (u : Task) × (body bs j ≡ bodyBytes u) × InBounds u × Share t u
+-- "two tasks share a memory block" is no fault here: document 02, Point 5, "so 10 is never given any more". That no two tasks of a file s
+-- share one is `Apart (tasksOf s)` (model: Tasks).

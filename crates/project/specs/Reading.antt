@@ -1,11 +1,9 @@
 -- Reader: the tests of its checks, the list of them, and its answer. Definitions only; proofs/Verdicts shows that each test is its fault.
-use mathlib.Core.Bool.{Bool, false, not, _&&_, _||_}
+use mathlib.Core.Bool.{Bool, not, _&&_, _||_}
 use mathlib.Core.List.{List, [], _∷_, _++_, map}
 use Prim.Native.Nat.{ℕ, zero, suc, _+_, _*_}
 use lib.Dec.{eqb, ltb}
 use lib.ListN.{length, getD, take}
-use Rattle.model.specs.Lists.{mem}
-use Rattle.model.specs.Tasks.{memoryBlocks}
 use Rattle.model.specs.Computed.{sameList}
 use Rattle.model.specs.OnPath.{allOnPath}
 use Rattle.body.specs.Layout.{Body}
@@ -16,7 +14,7 @@ use Rattle.project.specs.declared.answers.Check.the-variants.{Passed}
 use Rattle.project.specs.declared.answers.Check.the-variants.{Refused as Failed}
 use Rattle.project.specs.declared.answers.Reading.{Reading}
 use Rattle.project.specs.declared.answers.Reading.the-variants.{Accepted, Refused}
-use Rattle.project.specs.Checks.{Fault2, Fault3, Fault4, Fault5, Fault6, Fault7, Fault8, Fault9, Fault10}
+use Rattle.project.specs.Checks.{Fault2, Fault3, Fault4, Fault5, Fault6, Fault7, Fault8, Fault9}
 use Rattle.project.specs.Checklist.{Entry, one, each, noTask, Of, verdictOf}
 use Rattle.project.specs.File.{File, mark, edition, cacheBlocks, taskCount, offsetOf, sizeOf, bodies}
 
@@ -48,23 +46,13 @@ contentsFit s (suc left) j at = eqb (offsetOf s j) at && contentsFit s left (suc
 abbrev pub test7 : File → Bool
 test7 s = not (contentsFit s (taskCount s) 0 (8 + 4 * taskCount s))
 
--- ---- the tests of checks 8 to 10, over bodies
+-- ---- the tests of checks 8 and 9, over bodies
 
 abbrev pub test8 : Body → Bool
 test8 b = not (keptOf (decode b))
 
 abbrev pub test9 : Body → Bool
 test9 b = not (allOnPath (taskOf (decode b)))
-
--- some memory block of the first list is in the second
-abbrev pub meets : List ℕ → List ℕ → Bool
-meets [] seen = false
-meets (m ∷ ms) seen = mem eqb m seen || meets ms seen
-
--- the test of check 10 of each task, where `seen` are the memory blocks of the earlier tasks
-abbrev pub sharings : List ℕ → List Body → List Bool
-sharings seen [] = []
-sharings seen (b ∷ bs) = meets (memoryBlocks (taskOf (decode b))) seen ∷ sharings (seen ++ memoryBlocks (taskOf (decode b))) bs
 
 -- ---- the checks, in their order
 
@@ -83,14 +71,13 @@ abbrev pub taskChecks : List Body → List Entry
 taskChecks bs =
     each 8 (map test8 bs) (Of Fault8 [] bs)
     ∷ each 9 (map test9 bs) (Of Fault9 [] bs)
-    ∷ each 10 (sharings [] bs) (Fault10 bs)
     ∷ []
 
 -- on the contents and the bodies they tell of
 abbrev pub contentsChecks : File → List Entry
 contentsChecks s = one 7 noTask (test7 s) (Fault7 s) ∷ taskChecks (bodies s)
 
--- "Reader checks 2 to 10."
+-- "Reader checks 2 to 10."; document 02, Point 5: "so 10 is never given any more"
 abbrev pub fileChecks : File → List Entry
 fileChecks s = headChecks s ++ contentsChecks s
 

@@ -16,7 +16,8 @@ use Rattle.project.specs.File.{File, cacheBlocks, taskCount, fileOf}
 use Rattle.project.specs.Reading.{fileChecks}
 use Rattle.project.specs.Writing.{cut, writerChecks}
 
--- "A file is accepted when 2 to 10 pass."; "Reader answers n and t of a file."
+-- "A file is accepted when 2 to 10 pass.", and by document 02, Point 5, when 2 to 9 pass: "so 10 is never given any more"; "Reader answers n and
+-- t of a file."
 abbrev pub ReaderVerdict : File → Reading → Type 0
 ReaderVerdict s (Refused c a) = FirstFault (fileChecks s) c a
 ReaderVerdict s (Accepted n t) = AllPass (fileChecks s) × (n ≡ cacheBlocks s) × (t ≡ taskCount s)

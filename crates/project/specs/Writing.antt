@@ -38,7 +38,8 @@ SumFault s ls = total ls ≢ length s
 abbrev pub Fault14 : ℕ → List ℕ → List ℕ → List ℕ → Type 0
 Fault14 n s ls out = length out < length (fileOf n (cut s ls))
 
--- "Writer checks 5, 6 (number of lengths), 7 (their sum isn't the joined length), 8, 9, 10, 14."
+-- "Writer checks 5, 6 (number of lengths), 7 (their sum isn't the joined length), 8, 9, 10, 14."; document 02, Point 5: "so 10 is never
+-- given any more"
 abbrev pub writerChecks : ℕ → List ℕ → List ℕ → List ℕ → List Entry
 writerChecks n s ls out =
     one 5 noTask (test5 n) (Fault5 n)

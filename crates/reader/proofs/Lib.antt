@@ -1,4 +1,3 @@
-pub mod SharingLaws
 pub mod TaskLaws
 pub mod ReadLaws
 pub mod TaskBodies

@@ -1,5 +1,4 @@
 // Reader and Body: a project file read, and the body of a task in it.
-mod sharing;
 pub mod tasks;
 
 ghost use mathlib.Core.Path.{_≡_};
@@ -19,7 +18,7 @@ use project::contents::contents;
 use project::head::head;
 use tasks::check_tasks;
 
-// The answer of Reader for a file whose first eight bytes passed their checks: checks 7 to 10.
+// The answer of Reader for a file whose first eight bytes passed their checks: checks 7 to 9.
 pub fn read_bodies(file: &[u8]) -> Reading
     requires { ⌜ headCheck (now file) ≡ Check.Passed ⌝ }
     ensures { λ r. ⌜ r ≡ readingOf (now (file .entry)) ⌝ }

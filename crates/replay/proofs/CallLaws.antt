@@ -1,6 +1,6 @@
 -- The answers of Replay in the code's words.
 -- The idea: each check passed leaves the checks that follow.
-use mathlib.Core.Path.{_≡_, sym, ap, ap₂, _∙_}
+use mathlib.Core.Path.{_≡_, sym, ap, _∙_}
 use mathlib.Core.Bool.{Bool, true, false}
 use mathlib.Core.List.{List}
 use Prim.Native.Nat.{ℕ}
@@ -19,16 +19,17 @@ use Rattle.project.proofs.Checklists.{verdict-append}
 use Rattle.project.proofs.Accepted.{unless-passed, accepted-passed}
 use Rattle.reader.proofs.TaskBodies.{refused-check}
 use Rattle.sheet.specs.Parsed.{parse, keptSheet, completeAll, unmaskedAll}
-use Rattle.replay.specs.declared.Replaying.the-variants.{Counted, Refused}
-use Rattle.replay.specs.Replay.{runIn, test12, test13, test16, sheetChecks, sheetCheck, replayCheck, undisturbedIn, disturbedIn, pickReplaying, replayingOf, Passed12, Passed13}
+use Rattle.replay.specs.declared.Replaying.{Replaying}
+use Rattle.replay.specs.declared.Replaying.the-variants.{Refused}
+use Rattle.replay.specs.Replay.{runIn, test12, test13, test16, sheetChecks, sheetCheck, replayCheck, countedIn, pickReplaying, replayingOf, Passed12, Passed13}
 
 -- the checks of the file, and those on the sheet
 pub replay-parts : (s sheet : List ℕ) → replayCheck s sheet ≡ andThen (fileCheck s) (sheetCheck s sheet)
 replay-parts s sheet = verdict-append (fileChecks s) (sheetChecks s sheet)
 
 -- the answer by what the checks say
-pub answer-by : (s sheet : List ℕ) (r : Check) → replayCheck s sheet ≡ r → replayingOf s sheet ≡ pickReplaying r (undisturbedIn s (runIn s sheet)) (disturbedIn s (runIn s sheet))
-answer-by s sheet r e = ap (λ (c : Check). pickReplaying c (undisturbedIn s (runIn s sheet)) (disturbedIn s (runIn s sheet))) e
+pub answer-by : (s sheet : List ℕ) (r : Check) → replayCheck s sheet ≡ r → replayingOf s sheet ≡ pickReplaying r (countedIn s (runIn s sheet))
+answer-by s sheet r e = ap (λ (c : Check). pickReplaying c (countedIn s (runIn s sheet))) e
 
 -- a file that isn't accepted
 pub call-refused : (s sheet : List ℕ) {c a : ℕ} → readingOf s ≡ Unread c a → Refused c a ≡ replayingOf s sheet
@@ -96,5 +97,5 @@ module _ (s sheet : List ℕ) {n u : ℕ} (e : readingOf s ≡ Accepted n u) whe
     pub ready : Passed13 s sheet
     ready = let p = passed-sheet s sheet q in record { rules = record { file = ap accepted e; kept = p .kept }; complete = p .complete }
 
-    pub call-counted : {x y : ℕ} → x ≡ undisturbedIn s (runIn s sheet) → y ≡ disturbedIn s (runIn s sheet) → Counted x y ≡ replayingOf s sheet
-    call-counted ex ey = ap₂ (λ (i j : ℕ). Counted i j) ex ey ∙ sym (answer-by s sheet Passed (checks ∙ q))
+    pub call-counted : {x : Replaying} → x ≡ countedIn s (runIn s sheet) → x ≡ replayingOf s sheet
+    call-counted ex = ex ∙ sym (answer-by s sheet Passed (checks ∙ q))

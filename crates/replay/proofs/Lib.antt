@@ -1,5 +1,5 @@
 pub mod SheetLaws
 pub mod MaskLaws
-pub mod DisturbedLaws
+pub mod CountLaws
 pub mod Replays
 pub mod CallLaws

@@ -11,7 +11,7 @@ use borrow.Author.Tests.{not-true}
 use Rattle.cache.specs.References.{All}
 use Rattle.model.specs.Lists.{Each}
 use Rattle.model.specs.Tasks.{task}
-use Rattle.model.specs.Runs.{Preemption, Preempts, DisturbedRun, U, D}
+use Rattle.model.specs.Runs.{Preemption, Preempts, DisturbedRun, U, D, lostHits}
 use Rattle.model.specs.Demand.{pairSum}
 use Rattle.model.proofs.Disjoint.{all-map}
 use Rattle.body.proofs.BlockParts.{all-join}
@@ -36,10 +36,10 @@ use Rattle.sheet.proofs.CompletePaths.{complete-exact}
 use Rattle.sheet.proofs.SheetRuns.{acceptedRun, run-sheet, incomplete-exact, masked-exact}
 use Rattle.replay.specs.declared.Replaying.{Replaying}
 use Rattle.replay.specs.declared.Replaying.the-variants.{Counted, Refused}
-use Rattle.replay.specs.Replay.{runIn, test12, test13, test16, sheetChecks, sheetCheck, replayChecks, replayCheck, undisturbedIn, disturbedIn, pickReplaying, replayingOf}
+use Rattle.replay.specs.Replay.{runIn, test12, test13, test16, sheetChecks, sheetCheck, replayChecks, replayCheck, undisturbedIn, disturbedIn, lostIn, countedIn, pickReplaying, replayingOf}
 use Rattle.replay.specs.ReplayVerdict.{Replayed, ReplayVerdict}
 use Rattle.replay.proofs.CallLaws.{replay-parts, answer-by, SheetPassed, passed-sheet}
-use Rattle.replay.proofs.DisturbedLaws.{complete-blocks}
+use Rattle.replay.proofs.CountLaws.{complete-blocks}
 
 -- ---- the verdict
 
@@ -69,12 +69,13 @@ module _ (s sheet : List ℕ) where
     exact16 : (test16 s sheet ≡ true) ↔ Fault16 (tasksOf s) sheet
     exact16 = masked-exact (tasksOf s) sheet (runIn s sheet) is-parsed
 
-  its-run : SheetPassed s sheet → Replayed s sheet (undisturbedIn s (runIn s sheet)) (disturbedIn s (runIn s sheet))
+  its-run : SheetPassed s sheet → Replayed s sheet (undisturbedIn s (runIn s sheet)) (disturbedIn s (runIn s sheet)) (lostIn s (runIn s sheet))
   its-run p = record {
     run = acceptedRun (tasksOf s) sheet (runIn s sheet) (is-parsed (p .kept)) (p .complete) (p .unmasked);
     sheet-of = parsed-rules (length (tasksOf s)) sheet (runIn s sheet) (is-parsed (p .kept)) .numbers;
     undisturbed = refl;
     disturbed = refl;
+    lost = refl;
   }
 
   kept-by : (Fault12 (taskCount s) sheet → ⊥) → keptSheet (parse (taskCount s) sheet) ≡ true
@@ -91,45 +92,45 @@ module _ (s sheet : List ℕ) where
   pub replay-verdict : All (λ (x : ℕ). x < 256) s → ReplayVerdict s sheet (replayingOf s sheet)
   replay-verdict h = go (replayCheck s sheet) refl (verdict-exact (replayChecks s sheet) (replay-agreeing h))
     where
-      go : (r : Check) → replayCheck s sheet ≡ r → Verdict (replayChecks s sheet) r → ReplayVerdict s sheet (pickReplaying r (undisturbedIn s (runIn s sheet)) (disturbedIn s (runIn s sheet)))
+      go : (r : Check) → replayCheck s sheet ≡ r → Verdict (replayChecks s sheet) r → ReplayVerdict s sheet (pickReplaying r (countedIn s (runIn s sheet)))
       go Passed e v = (v, its-run (passed-sheet s sheet (then-passed (fileCheck s) (sheetCheck s sheet) (sym (replay-parts s sheet) ∙ e) .1)))
       go (Failed c a) e v = v
 
-  -- "Replay checks 2 to 10, 12, 13.", and then 16
-  pub replay-order : numbers (replayChecks s sheet) ≡ 2 ∷ 3 ∷ 4 ∷ 5 ∷ 6 ∷ 7 ∷ 8 ∷ 9 ∷ 10 ∷ 12 ∷ 13 ∷ 16 ∷ []
+  -- "Replay checks 2 to 10, 12, 13.", and then 16; document 02, Point 5: "10 is never given any more"
+  pub replay-order : numbers (replayChecks s sheet) ≡ 2 ∷ 3 ∷ 4 ∷ 5 ∷ 6 ∷ 7 ∷ 8 ∷ 9 ∷ 12 ∷ 13 ∷ 16 ∷ []
   replay-order = refl
 
 -- ---- a counted run, from the answer
 
-pub accepted-file : (s sheet : List ℕ) (u d : ℕ) → replayingOf s sheet ≡ Counted u d → readingOf s ≡ Accepted (cacheBlocks s) (taskCount s)
-accepted-file s sheet u d e = reading s (passing-accepted s (then-passed (fileCheck s) _ (sym (replay-parts s sheet) ∙ go (replayCheck s sheet) refl) .0))
+pub accepted-file : (s sheet : List ℕ) (u d l : ℕ) → replayingOf s sheet ≡ Counted u d l → readingOf s ≡ Accepted (cacheBlocks s) (taskCount s)
+accepted-file s sheet u d l e = reading s (passing-accepted s (then-passed (fileCheck s) _ (sym (replay-parts s sheet) ∙ go (replayCheck s sheet) refl) .0))
   where
     go : (c : Check) → replayCheck s sheet ≡ c → replayCheck s sheet ≡ Passed
     go Passed q = q
     go (Failed c a) q =
-        let x : _≡_ {A = Replaying} (Refused c a) (Counted u d) = sym (answer-by s sheet (Failed c a) q) ∙ e in
+        let x : _≡_ {A = Replaying} (Refused c a) (Counted u d l) = sym (answer-by s sheet (Failed c a) q) ∙ e in
         let z : _≡_ {A = ℕ} 0 1 = cc in
         absurd (omega arith)
 
-pub replayed : (s : List ℕ) → All (λ (x : ℕ). x < 256) s → (sheet : List ℕ) (u d : ℕ) → replayingOf s sheet ≡ Counted u d → Replayed s sheet u d
-replayed s h sheet u d e = subst (λ (x : Replaying). ReplayVerdict s sheet x) e (replay-verdict s sheet h) .1
+pub replayed : (s : List ℕ) → All (λ (x : ℕ). x < 256) s → (sheet : List ℕ) (u d l : ℕ) → replayingOf s sheet ≡ Counted u d l → Replayed s sheet u d l
+replayed s h sheet u d l e = subst (λ (x : Replaying). ReplayVerdict s sheet x) e (replay-verdict s sheet h) .1
 
--- demand 3 of what Replay answers
-pub record ReplayBounded (s sheet : List ℕ) (u d : ℕ) : Type 0 where
-  pub is : Replayed s sheet u d
-  pub lower : u ≤ d
+-- demand 3 of what Replay answers; document 02, Point 5: "That number is what a pair number bounds in sum", and "D .. still never passes U plus the sum."
+pub record ReplayBounded (s sheet : List ℕ) (u d l : ℕ) : Type 0 where
+  pub is : Replayed s sheet u d l
+  pub lost : l ≤ pairSum (fileCache s) (tasksOf s) (is .run .p) (is .run .preemptions)
   pub upper : d ≤ u + pairSum (fileCache s) (tasksOf s) (is .run .p) (is .run .preemptions)
 
-pub replay-bounded : (s : List ℕ) → All (λ (x : ℕ). x < 256) s → (sheet : List ℕ) (u d : ℕ) → replayingOf s sheet ≡ Counted u d → ReplayBounded s sheet u d
-replay-bounded s h sheet u d e =
-    let x = replayed s h sheet u d e in
-    let b = file-demand-3 s h (cacheBlocks s) (taskCount s) (accepted-file s sheet u d e) .bounds (x .run) in
-    record { is = x; lower = omega (arith, x .undisturbed, x .disturbed, b .0); upper = omega (arith, x .undisturbed, x .disturbed, b .1) }
+pub replay-bounded : (s : List ℕ) → All (λ (x : ℕ). x < 256) s → (sheet : List ℕ) (u d l : ℕ) → replayingOf s sheet ≡ Counted u d l → ReplayBounded s sheet u d l
+replay-bounded s h sheet u d l e =
+    let x = replayed s h sheet u d l e in
+    let b = file-demand-3 s h (cacheBlocks s) (taskCount s) (accepted-file s sheet u d l e) .bounds (x .run) in
+    record { is = x; lost = omega (arith, x .lost, b .lost); upper = omega (arith, x .undisturbed, x .disturbed, b .upper) }
 
 -- ---- a run of an accepted file that a sheet can hold: the answer, and that its numbers are of two bytes
 
 pub run-replayed : (s : List ℕ) → accepted (readingOf s) ≡ true → (run : DisturbedRun (tasksOf s)) → Fits (tasksOf s) run
-    → replayingOf s (sheetNumbers (sheetRun (tasksOf s) run)) ≡ Counted (U (fileCache s) run) (D (fileCache s) run)
+    → replayingOf s (sheetNumbers (sheetRun (tasksOf s) run)) ≡ Counted (U (fileCache s) run) (D (fileCache s) run) (lostHits (fileCache s) run)
 run-replayed s h run f =
     let o = run-sheet (tasksOf s) run f in
     let sheet = sheetNumbers (sheetRun (tasksOf s) run) in

@@ -1,10 +1,10 @@
--- Document 01, "Calls" and "Numbers of the checks", and document 02, Point 1: Replay. Definitions only.
+-- Document 01, "Calls" and "Numbers of the checks", and document 02, Points 1 and 5: Replay. Definitions only.
 use mathlib.Core.Path.{_≡_}
 use mathlib.Core.Bool.{Bool, true, not}
 use mathlib.Core.List.{List, [], _∷_, _++_}
 use Prim.Native.Nat.{ℕ}
 use Rattle.model.specs.Tasks.{task}
-use Rattle.model.specs.Runs.{countAtEnd}
+use Rattle.model.specs.Runs.{countAtEnd, lostAtEnd}
 use Rattle.project.specs.declared.answers.Check.{Check}
 use Rattle.project.specs.declared.answers.Check.the-variants.{Passed}
 use Rattle.project.specs.declared.answers.Check.the-variants.{Refused as Failed}
@@ -45,7 +45,7 @@ sheetChecks s sheet =
 abbrev pub sheetCheck : File → Sheet → Check
 sheetCheck s sheet = verdictOf (sheetChecks s sheet)
 
--- "Replay checks 2 to 10, 12, 13.", and then 16
+-- "Replay checks 2 to 10, 12, 13.", and then 16; Point 5: "10 is never given any more"
 abbrev pub replayChecks : File → Sheet → List Entry
 replayChecks s sheet = fileChecks s ++ sheetChecks s sheet
 
@@ -59,13 +59,20 @@ undisturbedIn s r = countAtEnd (fileCache s) (tasksOf s) (task (tasksOf s) (r .p
 abbrev pub disturbedIn : File → SheetRun → ℕ
 disturbedIn s r = countAtEnd (fileCache s) (tasksOf s) (task (tasksOf s) (r .p)) (r .path) (r .preemptions)
 
--- both counts where the checks pass, else the check that fails first and the task it names
-abbrev pub pickReplaying : Check → ℕ → ℕ → Replaying
-pickReplaying Passed u d = Counted u d
-pickReplaying (Failed c a) u d = Refused c a
+-- Point 5: "Replay adds a third number, the hits of the undisturbed run that became misses."
+abbrev pub lostIn : File → SheetRun → ℕ
+lostIn s r = lostAtEnd (fileCache s) (tasksOf s) (task (tasksOf s) (r .p)) (r .path) (r .preemptions)
+
+-- the three counts where the checks pass, else the check that fails first and the task it names
+abbrev pub countedIn : File → SheetRun → Replaying
+countedIn s r = Counted (undisturbedIn s r) (disturbedIn s r) (lostIn s r)
+
+abbrev pub pickReplaying : Check → Replaying → Replaying
+pickReplaying Passed counted = counted
+pickReplaying (Failed c a) counted = Refused c a
 
 abbrev pub replayingOf : File → Sheet → Replaying
-replayingOf s sheet = pickReplaying (replayCheck s sheet) (undisturbedIn s (runIn s sheet)) (disturbedIn s (runIn s sheet))
+replayingOf s sheet = pickReplaying (replayCheck s sheet) (countedIn s (runIn s sheet))
 
 -- ---- for the functions within Replay
 

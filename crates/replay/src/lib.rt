@@ -1,4 +1,4 @@
-// Replay: the misses of a run, without and with its preemptions.
+// Replay: the misses of a run, without and with its preemptions, and the hits that the preemptions cost.
 mod checks;
 mod counts;
 
@@ -8,17 +8,24 @@ ghost use Rattle.replay.specs.Replay.{replayingOf};
 use cache::blocks::CacheShape;
 use cache::numbers::byte_count;
 use checks::check_sheet;
-use counts::disturbed;
-use counts::undisturbed;
+use counts::run_counts;
 use project::answers::Check;
 use project::answers::Reading;
 use project::head::head;
 use reader::read_bodies;
 
-// What Replay answers: the misses of the run's own references without and with the preemptions, or the check that fails first and the task it names.
+// What Replay answers: the misses of the run's own references without and with the preemptions, and the lost hits, which are own references
+// that hit without them and miss with them; or the check that fails first and the task it names.
 pub enum Replaying {
-    Counted { undisturbed: u32, disturbed: u32 },
-    Refused { check: u8, task: u8 },
+    Counted {
+        undisturbed: u32,
+        disturbed: u32,
+        lost: u32,
+    },
+    Refused {
+        check: u8,
+        task: u8,
+    },
 }
 
 // The answer of Replay for a file whose first eight bytes passed their checks.
@@ -30,20 +37,12 @@ fn replay_bodies(file: &[u8], sheet: &[u16]) -> Replaying
         Reading::Refused { check, task } => Replaying::Refused { check, task },
         Reading::Accepted { n, t } => match check_sheet(file, sheet, byte_count(t)) {
             Check::Refused { check, task } => Replaying::Refused { check, task },
-            Check::Passed => {
-                let shape = CacheShape { blocks: n };
-                let u = undisturbed(file, sheet, shape);
-                let d = disturbed(file, sheet, shape);
-                Replaying::Counted {
-                    undisturbed: u,
-                    disturbed: d,
-                }
-            }
+            Check::Passed => run_counts(file, sheet, CacheShape { blocks: n }),
         },
     }
 }
 
-// Replay: U and D of the run that the sheet says, or the check that fails first. The first bytes are checked here, so that a file that
+// Replay: U, D and the lost hits of the run that the sheet says, or the check that fails first. The first bytes are checked here, so that a file that
 // they refuse costs no call.
 pub fn replay(file: &[u8], sheet: &[u16]) -> Replaying
     ensures { λ r. ⌜ r ≡ replayingOf (now (file .entry)) (now (sheet .entry)) ⌝ }

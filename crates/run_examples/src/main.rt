@@ -1,14 +1,16 @@
-// Prints the runs that cost most of document 02, Point 3: for two tasks of a file their pair number, the sheet that is written and its replay; and
-// what the call refuses.
+// Prints the runs that cost most of document 02, Points 3 and 5: for two tasks of a file their pair number, the sheet that is written and its replay;
+// and what the call refuses.
 ghost use mathlib.Core.Path.{_≡_};
 ghost use Prim.Native.Nat.{_≤_, _<_};
 ghost use lib.ListN.{length};
 use area::AREA_LENGTH;
 use costliest::costliest_run;
+use example_files::APART;
 use example_files::E;
 use example_files::FIGURE_1_AND_BLOCK;
 use example_files::FIGURE_1_AND_FORK;
 use example_files::FIVE_ARMS;
+use example_files::SHARED_BOTH;
 use example_files::SIX_FORKS_OF_TASKS_2_AND_3;
 use example_files::with_byte;
 use libc::STDOUT_FILENO;
@@ -62,18 +64,17 @@ fn print_pair_number(file: &[u8], i: usize, j: usize, area: &mut [u16], numbers:
     }
 }
 
-// U and D of the sheet's run, and what its preemptions cost.
+// U, D and the lost hits of the sheet's run.
 fn print_costs(file: &[u8], sheet: &[u16]) {
     match replay(file, sheet) {
         Replaying::Counted {
-            undisturbed: u,
-            disturbed: d,
+            undisturbed,
+            disturbed,
+            lost,
         } => {
-            print_named(b", U = ", u as u64);
-            print_named(b", D = ", d as u64);
-            if u <= d {
-                print_named(b", D - U = ", (d - u) as u64);
-            }
+            print_named(b", U = ", undisturbed as u64);
+            print_named(b", D = ", disturbed as u64);
+            print_named(b", lost hits = ", lost as u64);
         }
         Replaying::Refused { check, task } => {
             print(b", Replay ");
@@ -252,6 +253,12 @@ fn show_larger() {
     );
 }
 
+// Runs of tasks that share a memory block: one that loses no hit, and one that loses a hit and has another in place of a miss.
+fn show_shared() {
+    show(b"E with byte 31 = 00", &with_byte(31, 0x00), 0, 1);
+    show(b"one of two memory blocks shared", &SHARED_BOTH, 0, 1);
+}
+
 // Lists of other lengths.
 fn show_lengths() {
     show_kept(b"E, first area of 24831", &E, 0, 1, 24831, 24832, 2310);
@@ -268,7 +275,7 @@ fn show_tasks() {
     show_refused(b"E", &E, 1, 1);
     show_refused(b"E", &E, 2, 0);
     show_refused(b"E", &E, 0, 2);
-    show_refused(b"E with byte 31 = 00", &with_byte(31, 0x00), 0, 0);
+    show_refused(b"two blocks, no successors", &APART, 0, 0);
     show_refused(forks, &SIX_FORKS_OF_TASKS_2_AND_3, 2, 3);
     show_refused(forks, &SIX_FORKS_OF_TASKS_2_AND_3, 3, 2);
     show_refused(forks, &SIX_FORKS_OF_TASKS_2_AND_3, 0, 3);
@@ -278,6 +285,7 @@ fn show_tasks() {
 fn main() {
     show_documents();
     show_larger();
+    show_shared();
     show_lengths();
     show_tasks();
 }

@@ -4,6 +4,8 @@ use Rattle.runs.proofs.Walking.{_≡_, ℕ, List, [], _∷_, URA, fullS
 use Rattle.runs.proofs.Walking.{Heap, Atoms, sem, Given, ‵, later, _$_, _∵_, !, qed, move, keep, use1, use3, fsplit, fjoin, fpick, fpack, await, updating, at-once}
 use Rattle.runs.proofs.Walking.{check, done, by, Body, RattleType, Is, shows, mem, cellAt, partOf, RefT, LentRef, lends-ref, ref-back, owned, peeks, spelt}
 use denote.Struct.Laws as LL
+use mathlib.Core.Bool.{Bool}
+use Rattle.cache.specs.Cache.{hits}
 use Rattle.cache.specs.Shape.{shaped}
 use Rattle.cache.specs.References.{numbers}
 use Rattle.cache.specs.declared.blocks.MemoryBlock.{MemoryBlock}
@@ -40,6 +42,10 @@ at-cell b o δ h = record { ptr = (b, o); name = δ; now = h }
 -- r is h after one reference
 abbrev pub After : ReplayCache → MemoryBlock → CacheShape → ReplayCache → Type 0
 After h m shape r = held r ≡ withOwn (shaped 32 shape) (held h) (m .0)
+
+-- whether that reference hits
+abbrev pub Hit : ReplayCache → MemoryBlock → CacheShape → Bool
+Hit h m shape = hits (shaped 32 shape) (h .cells) (m .0)
 
 -- r is h after all references of the bytes
 abbrev pub AfterAll : ReplayCache → List ℕ → CacheShape → ReplayCache → Type 0

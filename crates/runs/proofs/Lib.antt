@@ -6,3 +6,7 @@ pub mod RunLaws
 pub mod Walking
 pub mod LentCache
 pub mod LentRow
+pub mod ReferCaller
+pub mod BothLaws
+pub mod PathCaller
+pub mod BothEvents

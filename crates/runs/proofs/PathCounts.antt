@@ -1,9 +1,9 @@
--- What the references of a path do to the row and to the count: the row is that of all its references, and each block adds at most 16.
+-- What the references of a path do to the row and to the count: the row is that of all its references, and each block has at most 16.
 -- Each is an induction on the references or on the path.
 use mathlib.Core.Path.{_≡_, refl, sym, ap, _∙_}
 use mathlib.Core.Bool.{not}
 use mathlib.Core.List.{List, [], _∷_}
-use Prim.Native.Nat.{ℕ, zero, suc, _+_, _*_, _≤_}
+use Prim.Native.Nat.{ℕ, zero, suc, _+_, _≤_}
 use native.Mathlib.Omega.{arith}
 use lib.ListN.{length}
 use Rattle.cache.specs.Cache.{Cache, hits, withReferences}
@@ -12,20 +12,17 @@ use Rattle.cache.proofs.Sums.{bit-le}
 use Rattle.model.specs.Lists.{Each}
 use Rattle.model.specs.Tasks.{Block, Task, block, references}
 use Rattle.model.specs.Runs.{RowCount, ownReferences}
+use Rattle.model.proofs.RunEvents.{own-row}
 use Rattle.body.specs.Layout.{BlockInBounds, InBounds}
 use Rattle.runs.specs.Running.{withOwn, ownPath}
 
 -- ---- the row
 
-own-row : (k : Cache) (ms : List ℕ) (s : RowCount) → ownReferences k s ms .row ≡ withReferences k (s .row) ms
-own-row k [] s = refl
-own-row k (m ∷ ms) s = own-row k ms (withOwn k s m)
-
 pub path-row : (k : Cache) (t : Task) (p : List ℕ) (s : RowCount) → ownPath k t s p .row ≡ withReferences k (s .row) (references t p)
 path-row k t [] s = refl
 path-row k t (b ∷ p) s =
     path-row k t p (ownReferences k s (block t b .references))
-    ∙ ap (λ (r : List ℕ). withReferences k r (references t p)) (own-row k (block t b .references) s)
+    ∙ ap (λ (r : List ℕ). withReferences k r (references t p)) (own-row k s (block t b .references))
     ∙ sym (withReferences-append k (s .row) (block t b .references) (references t p))
 
 -- ---- the count
@@ -41,8 +38,3 @@ few-references t h b = go t (h .each) b
     go [] e b = omega arith
     go (x ∷ u) e zero = e .0 .references
     go (x ∷ u) e (suc b) = go u (e .1) b
-
-pub path-bound : (k : Cache) (t : Task) → InBounds t → (p : List ℕ) (s : RowCount) → ownPath k t s p .count ≤ s .count + 16 * length p
-path-bound k t h [] s = omega arith
-path-bound k t h (b ∷ p) s =
-    omega (arith, path-bound k t h p (ownReferences k s (block t b .references)), own-bound k (block t b .references) s, few-references t h b)

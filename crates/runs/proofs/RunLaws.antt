@@ -1,13 +1,13 @@
 -- The references of a path in the code's words: a turn of the loop over its blocks.
 -- The idea: what is left of the path, run from here, gives what the whole path gives from the start.
-use mathlib.Core.Path.{_≡_, refl, sym, ap, _∙_}
+use mathlib.Core.Path.{_≡_, sym, ap, _∙_}
 use mathlib.Core.Bool.{true}
 use mathlib.Core.List.{List, [], _∷_}
-use Prim.Native.Nat.{ℕ, zero, suc, _+_, _/_, _≤_, _<_}
+use Prim.Native.Nat.{ℕ, zero, suc, _+_, _-_, _/_, _≤_, _<_}
 use native.Mathlib.Nat.{not-suc-le-zero}
 use native.Mathlib.Numerals.{add-one}
 use native.Mathlib.Omega.{arith}
-use lib.ListN.{length, getD, drop, drop-of-length-le}
+use lib.ListN.{length, getD, drop, replicate, length-append, drop-of-length-le}
 use lib.Seq.{drop-cons}
 use Rattle.cache.specs.References.{All, numbers}
 use Rattle.cache.specs.Cache.{Cache}
@@ -16,8 +16,9 @@ use Rattle.model.specs.Tasks.{Block, Task, block}
 use Rattle.model.specs.Runs.{RowCount, ownReferences}
 use Rattle.body.specs.Layout.{InBounds}
 use Rattle.body.specs.Decode.{decode, taskOf}
-use Rattle.body.specs.Walk.{keptOf, startsOf}
+use Rattle.body.specs.Walk.{startsFrom, keptOf, startsOf}
 use Rattle.body.proofs.Decoded.{decoded-bounds}
+use Rattle.body.proofs.Walks.{length-starts}
 use Rattle.body.proofs.WalksParts.{BlockParts, kept-decoded, walked-parts}
 use Rattle.runs.specs.Running.{rowCount, ownPath}
 use Rattle.runs.proofs.PathCounts.{own-bound, few-references}
@@ -37,15 +38,15 @@ walked s starts k es =
     let (t, q) = kept-decoded (decode s) k in
     record { bounds = rw q (decoded-bounds s t q); parts = λ b. rw q (λ l. walked-parts s t b q l (ap (λ x. getD x b 0) es)) }
 
+-- there is a beginning for each block
+pub starts-long : (s starts : List ℕ) → keptOf (decode s) ≡ true → starts ≡ startsOf (decode s) → length (taskOf (decode s)) ≤ length starts
+starts-long s starts k es =
+    let (t, q) = kept-decoded (decode s) k in
+    rw (es, q) (omega (arith, length-append (startsFrom 2 t) (replicate (24 - length t) 0), length-starts 2 t))
+
 -- the bytes of a block's references are few
 pub few-bytes : (t : Task) → InBounds t → (b : ℕ) (bytes : List ℕ) → numbers bytes ≡ block t b .references → length bytes / 2 ≤ 16
 few-bytes t h b bytes e = omega (arith, length-numbers bytes, ap length e, few-references t h b)
-
--- no bytes are no references, and nothing changes
-pub none-own : (k : Cache) (cells : List ℕ) (old : ℕ) (bytes : List ℕ) → length bytes ≡ 0 → rowCount cells old ≡ ownReferences k (rowCount cells old) (numbers bytes)
-unfolding numbers
-none-own k cells old [] e = refl
-none-own k cells old (x ∷ bytes) e = absurd (omega arith)
 
 module _ (k : Cache) (t : Task) (path : List ℕ) (i : ℕ) (cells : List ℕ) (old : ℕ) where
   pub path-turn : (bytes : List ℕ) {b : ℕ} {next : List ℕ} {new : ℕ} → i < length path → b ≡ getD path i 0 → numbers bytes ≡ block t b .references

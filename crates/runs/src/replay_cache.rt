@@ -2,6 +2,7 @@
 ghost use mathlib.Core.Path.{_≡_};
 ghost use Prim.Native.Nat.{_+_, _*_, _/_, _^_, _<_};
 ghost use lib.ListN.{length};
+ghost use Rattle.cache.specs.Cache.{hits};
 ghost use Rattle.cache.specs.References.{numberAt, numbers};
 ghost use Rattle.cache.specs.Shape.{shaped, Holds};
 ghost use Rattle.model.specs.Runs.{ownReferences};
@@ -28,12 +29,16 @@ pub fn referred(cells: &mut [u16; 32], misses: u32, m: MemoryBlock, shape: Cache
     if old == v { misses } else { misses + 1 }
 }
 
-// One reference, on a lent cache.
-pub fn refer(cache: &mut ReplayCache, m: MemoryBlock, shape: CacheShape)
+// One reference, on a lent cache, and whether it hits.
+pub fn refer(cache: &mut ReplayCache, m: MemoryBlock, shape: CacheShape) -> bool
     requires { ⌜ Holds 32 shape × (now cache .misses + 1 < 2 ^ 32) ⌝ }
-    ensures { λ _. ⌜ held (now (cache .exit)) ≡ withOwn (shaped 32 shape) (held (now (cache .entry))) (m .0) ⌝ }
+    ensures { λ r. ⌜ (held (now (cache .exit)) ≡ withOwn (shaped 32 shape) (held (now (cache .entry))) (m .0))
+        × (r ≡ hits (shaped 32 shape) (now (cache .entry) .cells) (m .0)) ⌝ }
 {
-    cache.misses = referred(&mut cache.cells, cache.misses, m, shape);
+    let before = cache.misses;
+    let after = referred(&mut cache.cells, before, m, shape);
+    cache.misses = after;
+    after == before
 }
 
 // The reference numbered i of a list of bytes, two for each.
@@ -52,14 +57,4 @@ pub fn refer_all(references: &[u8], shape: CacheShape, cache: &mut ReplayCache)
     for i in 0..references.len() / 2 {
         refer(cache, reference_at(references, i), shape);
     }
-}
-
-// The same for callers that hold the cache by value: a local is lent.
-pub fn after_references(references: &[u8], shape: CacheShape, cache: ReplayCache) -> ReplayCache
-    requires { ⌜ Holds 32 shape × (cache .misses + length (now references) / 2 < 2 ^ 32) ⌝ }
-    ensures { λ r. ⌜ held r ≡ ownReferences (shaped 32 shape) (held cache) (numbers (now (references .entry))) ⌝ }
-{
-    let mut lent = cache;
-    refer_all(references, shape, &mut lent);
-    lent
 }

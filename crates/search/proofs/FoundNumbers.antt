@@ -1,17 +1,20 @@
 -- What the search finds makes the pair number: `makes-number`.
 -- The idea: the candidates are the rows that paths make at unmasked blocks, so their largest number is the pair number; where that is 0, all
 -- rows at unmasked blocks make it, and so do the first rows of the first such block.
-use mathlib.Core.Path.{_≡_, sym, ap, _∙_}
+use mathlib.Core.Path.{_≡_, refl, sym, ap, _∙_}
 use mathlib.Core.Logic.{_⊎_, inl, inr}
 use mathlib.Core.Bool.{true}
-use mathlib.Core.List.{List, [], map}
+use mathlib.Core.List.{List, []}
 use Prim.Native.Nat.{ℕ, _≤_, _<_}
 use native.Mathlib.Omega.{arith}
 use lib.ListN.{length, getD, length-map, List·getD-map}
 use lib.Bits.{bitAnd}
 use lib.Count.{ones}
+use borrow.Author.Tests.{eq-eqb}
 use Rattle.cache.specs.Cache.{Cache}
-use Rattle.cache.specs.Sets.{usefulUsed, bits, inSet}
+use Rattle.cache.specs.References.{nothing}
+use Rattle.cache.specs.Sets.{replaces, usefulReplaced, inSet}
+use Rattle.cache.proofs.Masks.{bits-none}
 use Rattle.model.specs.Tasks.{Task, Unmasked, SomeUnmasked, end}
 use Rattle.model.specs.Numbers.{Rows, counted}
 use Rattle.model.specs.Computed.{sorted, reaching, living, unmasked, pairNumber}
@@ -20,16 +23,17 @@ use Rattle.model.proofs.Sorted.{sorted-has, sorted-only, reaching-rows, living-
 use Rattle.model.proofs.Most.{most-unique, unmasked-exact, pair-is}
 use Rattle.model.proofs.StatesWidth.{reaches-long}
 use Rattle.gather.proofs.Distinct.{mem-getD, number-of}
-use Rattle.pairs.specs.Pairs.{usedSet, usefulSet}
+use Rattle.pairs.specs.Pairs.{replacedSet, usefulSet, replacedSets}
 use Rattle.pairs.proofs.PairNumbers.{counts-as}
 use Rattle.search.specs.declared.Found.{Found}
 use Rattle.search.specs.Search.{OfTask, Searched, firstIn, start}
 use Rattle.search.proofs.FirstIn.{first-below, first-member}
 
--- the used set of the row numbered e
-used-at : (fs : List (List ℕ)) (e : ℕ) → getD (map usedSet fs) e 0 ≡ usedSet (getD fs e [])
-unfolding bits
-used-at fs e = List·getD-map usedSet fs e []
+-- the set that the end row numbered e replaces in a row; a row of no places replaces nothing
+replaced-at : (r : List ℕ) (fs : List (List ℕ)) (e : ℕ) → getD (replacedSets r fs) e 0 ≡ replacedSet (getD fs e []) r
+replaced-at r fs e =
+    ap (getD (replacedSets r fs) e) (sym (bits-none (length r) (replaces [] r) (λ c h. rw (eq-eqb nothing nothing refl))))
+    ∙ List·getD-map (λ (f : List ℕ). replacedSet f r) fs e []
 
 -- the rows that are found are there; if the task i has an unmasked block, they are rows of such a block and make the pair number
 pub record MakesNumber (k : Cache) (i j : Task) (rs ls : ℕ → List (List ℕ)) (fs : List (List ℕ)) (x : Found) : Type 0 where
@@ -38,7 +42,7 @@ pub record MakesNumber (k : Cache) (i j : Task) (rs ls : ℕ → List (List ℕ)
   pub liveRow : x .live < length (ls (x .block))
   pub endingRow : x .ending < length fs
   pub unmasked : SomeUnmasked i → Unmasked i (x .block)
-  pub number : SomeUnmasked i → usefulUsed k (getD (rs (x .block)) (x .reaching) []) (getD (ls (x .block)) (x .live) []) (getD fs (x .ending) []) ≡ pairNumber k i j
+  pub number : SomeUnmasked i → usefulReplaced k (getD (rs (x .block)) (x .reaching) []) (getD (ls (x .block)) (x .live) []) (getD fs (x .ending) []) ≡ pairNumber k i j
 
 module _ (k : Cache) (i j : Task) (set : ℕ) (rs ls : ℕ → List (List ℕ)) (fs : List (List ℕ)) (marks : (b : ℕ) → b < length i → inSet set b ≡ unmasked i b)
     (reached : (b : ℕ) → b < length i → sorted (rs b) ≡ reaching k i b) (lived : (b : ℕ) → b < length i → sorted (ls b) ≡ living k i b)
@@ -57,31 +61,31 @@ module _ (k : Cache) (i j : Task) (set : ℕ) (rs ls : ℕ → List (List ℕ)) 
       ends = reaching-rows k j (end j) (getD fs e []) .0 (rw (← ended) (sorted-has fs (getD fs e []) (mem-getD fs e endingRow)));
     }
 
-    common : ones (bitAnd (usefulSet (getD (rs b) r []) (getD (ls b) l [])) (getD (map usedSet fs) e 0)) ≡ usefulUsed k (getD (rs b) r []) (getD (ls b) l []) (getD fs e [])
+    common : ones (bitAnd (usefulSet (getD (rs b) r []) (getD (ls b) l [])) (getD (replacedSets (getD (rs b) r []) fs) e 0)) ≡ usefulReplaced k (getD (rs b) r []) (getD (ls b) l []) (getD fs e [])
     common =
-        ap (λ (v : ℕ). ones (bitAnd (usefulSet (getD (rs b) r []) (getD (ls b) l [])) v)) (used-at fs e)
-        ∙ counts-as k (getD (rs b) r []) (getD (ls b) l []) (getD fs e []) (reaches-long k i b (getD (rs b) r []) (rows .reaches)) (reaches-long k j (end j) (getD fs e []) (rows .ends))
+        ap (λ (v : ℕ). ones (bitAnd (usefulSet (getD (rs b) r []) (getD (ls b) l [])) v)) (replaced-at (getD (rs b) r []) fs e)
+        ∙ counts-as k (getD (rs b) r []) (getD (ls b) l []) (getD fs e []) (reaches-long k i b (getD (rs b) r []) (rows .reaches))
 
     candidate : inSet set b ≡ true
-        → OfTask set rs ls (map usedSet fs) (length i) (record { block = b; reaching = r; live = l; ending = e; number = counted (usefulUsed k) rows })
+        → OfTask set rs ls fs (length i) (record { block = b; reaching = r; live = l; ending = e; number = counted (usefulReplaced k) rows })
     candidate member =
         (inside, (member, (reachingRow, (liveRow, (rw length-map endingRow, ap (λ (n : ℕ). record { block = b; reaching = r; live = l; ending = e; number = n }) (sym common))))))
 
   -- ---- what is found
 
-  module _ (found : Found) (searched : Searched set rs ls (map usedSet fs) (length i) found) where
-    bound : (x : Rows k i j) → Unmasked i (x .at) → counted (usefulUsed k) x ≤ found .number
+  module _ (found : Found) (searched : Searched set rs ls fs (length i) found) where
+    bound : (x : Rows k i j) → Unmasked i (x .at) → counted (usefulReplaced k) x ≤ found .number
     bound x free =
         let inside = path-last i (x .reaches .1) in
         let (r, hr, er) = number-of (x .reaching) (rs (x .at)) (sorted-only (rs (x .at)) (x .reaching) (rw (reached (x .at) inside) (reaching-rows k i (x .at) (x .reaching) .1 (x .reaches)))) in
         let (l, hl, el) = number-of (x .live) (ls (x .at)) (sorted-only (ls (x .at)) (x .live) (rw (lived (x .at) inside) (living-rows k i (x .at) (x .live) .1 (x .lives)))) in
         let (e, he, ee) = number-of (x .ending) fs (sorted-only fs (x .ending) (rw ended (reaching-rows k j (end j) (x .ending) .1 (x .ends)))) in
         rw (← er, ← el, ← ee)
-        (searched .most (record { block = x .at; reaching = r; live = l; ending = e; number = usefulUsed k (getD (rs (x .at)) r []) (getD (ls (x .at)) l []) (getD fs e []) })
+        (searched .most (record { block = x .at; reaching = r; live = l; ending = e; number = usefulReplaced k (getD (rs (x .at)) r []) (getD (ls (x .at)) l []) (getD fs e []) })
         (candidate (x .at) r l e inside hr hl he (marks (x .at) inside ∙ unmasked-exact i (x .at) .1 free)))
 
     -- a candidate that is found
-    module _ (c : OfTask set rs ls (map usedSet fs) (length i) found) where
+    module _ (c : OfTask set rs ls fs (length i) found) where
       ending-row : found .ending < length fs
       ending-row = rw length-map at (c .1 .1 .1 .1 .0)
 
@@ -91,17 +95,17 @@ module _ (k : Cache) (i j : Task) (set : ℕ) (rs ls : ℕ → List (List ℕ)) 
       found-free : Unmasked i (found .block)
       found-free = unmasked-exact i (found .block) .0 (sym (marks (found .block) (c .0)) ∙ c .1 .0)
 
-      found-count : counted (usefulUsed k) found-rows ≡ found .number
+      found-count : counted (usefulReplaced k) found-rows ≡ found .number
       found-count =
           sym (common (found .block) (found .reaching) (found .live) (found .ending) (c .0) (c .1 .1 .0) (c .1 .1 .1 .0) ending-row)
           ∙ sym (ap (λ (y : Found). y .number) (c .1 .1 .1 .1 .1))
 
     pub found-number : found .number ≡ pairNumber k i j
     found-number =
-        most-unique (usefulUsed k) k i j (Unmasked i) (found .number) (pairNumber k i j) (record { bound = bound; attained = go (searched .found) }) (pair-is k i j)
+        most-unique (usefulReplaced k) k i j (Unmasked i) (found .number) (pairNumber k i j) (record { bound = bound; attained = go (searched .found) }) (pair-is k i j)
       where
-        go : (found ≡ start set (length i)) ⊎ OfTask set rs ls (map usedSet fs) (length i) found
-            → (found .number ≡ 0) ⊎ ((x : Rows k i j) × Unmasked i (x .at) × (counted (usefulUsed k) x ≡ found .number))
+        go : (found ≡ start set (length i)) ⊎ OfTask set rs ls fs (length i) found
+            → (found .number ≡ 0) ⊎ ((x : Rows k i j) × Unmasked i (x .at) × (counted (usefulReplaced k) x ≡ found .number))
         go (inl e) = inl (ap (λ (y : Found). y .number) e)
         go (inr c) = inr (found-rows c, found-free c, found-count c)
 
@@ -135,7 +139,7 @@ module _ (k : Cache) (i j : Task) (set : ℕ) (rs ls : ℕ → List (List ℕ)) 
       pub makes-number : MakesNumber k i j rs ls fs found
       makes-number = go (searched .found)
         where
-          go : (found ≡ start set (length i)) ⊎ OfTask set rs ls (map usedSet fs) (length i) found → MakesNumber k i j rs ls fs found
+          go : (found ≡ start set (length i)) ⊎ OfTask set rs ls fs (length i) found → MakesNumber k i j rs ls fs found
           go (inl e) = rw e (from-start (sym found-number ∙ ap (λ (y : Found). y .number) e))
           go (inr c) = record {
             inside = c .0;

@@ -1,6 +1,6 @@
 -- A search that goes over candidates, one family after the other: what is found over the families so far, and over one more.
 -- The larger of two numbers is kept, so a candidate of an earlier family is no more than what is found later.
-use mathlib.Core.Path.{_≡_, refl, sym, ap, _∙_}
+use mathlib.Core.Path.{_≡_, refl, sym, ap, subst, _∙_}
 use mathlib.Core.Logic.{_⊎_, inl, inr}
 use mathlib.Core.Bool.{Bool, true, false, true≢false}
 use mathlib.Core.List.{List, [], _∷_}
@@ -43,15 +43,15 @@ module _ (numberOf : Found → ℕ) (family : ℕ → Candidates) (own : (n : �
       place (inl e) (inr s) = inr (rw e (omega (arith, s .0), s .1))
       place (inr s) o = let last = own n c s in inr (rw last (omega arith, s))
 
--- ---- a used set more: the useful set has n cache blocks in common with it, and that is more than were found, or not
+-- ---- a replaced set more: the useful set has n cache blocks in common with it, and that is more than were found, or not
 
-module _ (b r l set : ℕ) (used : List ℕ) where
-  pub end-more : (e : ℕ) {a c d : Found} → Raised (Below (λ x. x .ending) e (AtEnd b r l set used)) a c → Raised (AtEnd b r l set used e) c d
-      → Raised (Below (λ x. x .ending) (e + 1) (AtEnd b r l set used)) a d
-  end-more = raised-more (λ x. x .ending) (AtEnd b r l set used) (λ e x p. ap (λ (y : Found). y .ending) p)
+module _ (b r l set : ℕ) (sets : List ℕ) where
+  pub end-more : (e : ℕ) {a c d : Found} → Raised (Below (λ x. x .ending) e (AtEnd b r l set sets)) a c → Raised (AtEnd b r l set sets e) c d
+      → Raised (Below (λ x. x .ending) (e + 1) (AtEnd b r l set sets)) a d
+  end-more = raised-more (λ x. x .ending) (AtEnd b r l set sets) (λ e x p. ap (λ (y : Found). y .ending) p)
 
-  module _ (e : ℕ) (a : Found) {new : Found} {n : ℕ} (count : n ≡ ones (bitAnd set (getD used e 0))) where
-    pub end-raised : a .number < n → new ≡ record { block = b; reaching = r; live = l; ending = e; number = n } → Raised (AtEnd b r l set used e) a new
+  module _ (e : ℕ) (a : Found) {new : Found} {n : ℕ} (count : n ≡ ones (bitAnd set (getD sets e 0))) where
+    pub end-raised : a .number < n → new ≡ record { block = b; reaching = r; live = l; ending = e; number = n } → Raised (AtEnd b r l set sets e) a new
     end-raised h q =
         let new-number : new .number ≡ n = ap (λ (y : Found). y .number) q in
         record {
@@ -60,48 +60,50 @@ module _ (b r l set : ℕ) (used : List ℕ) where
           found = inr (q ∙ ap (λ (m : ℕ). record { block = b; reaching = r; live = l; ending = e; number = m }) count);
         }
 
-    pub end-kept : n ≤ a .number → new ≡ a → Raised (AtEnd b r l set used e) a new
-    end-kept h q = rw q (raised-kept (AtEnd b r l set used e) a (λ x p. omega (arith, ap (λ (y : Found). y .number) p)))
+    pub end-kept : n ≤ a .number → new ≡ a → Raised (AtEnd b r l set sets e) a new
+    end-kept h q = rw q (raised-kept (AtEnd b r l set sets e) a (λ x p. omega (arith, ap (λ (y : Found). y .number) p)))
 
   -- a set of too few cache blocks
-  pub set-skipped : (a : Found) → set < 2 ^ 32 → ones set ≤ a .number → Raised (OfSet b r l set used) a a
+  pub set-skipped : (a : Found) → set < 2 ^ 32 → ones set ≤ a .number → Raised (OfSet b r l set sets) a a
   set-skipped a w h =
-      raised-kept (OfSet b r l set used) a
-      (λ x p. omega (arith, ap (λ (y : Found). y .number) (p .1), most-ones set (getD used (x .ending) 0 ∷ []) w))
+      raised-kept (OfSet b r l set sets) a
+      (λ x p. omega (arith, ap (λ (y : Found). y .number) (p .1), most-ones set (getD sets (x .ending) 0 ∷ []) w))
 
 -- ---- a row more: the row numbered k was lent as a part from w k to w k + w
 
 row-lent : (w n k : ℕ) (l : List ℕ) → k < n → getD (rowsOf w n l) k [] ≡ take (w * k + w - w * k) (drop (w * k) l)
 row-lent w n k l h = let s : w * k + w - w * k ≡ w = omega arith in rows-at w n k l h ∙ ap (λ (m : ℕ). take m (drop (w * k) l)) (sym s)
 
-module _ (b w lived : ℕ) (live used : List ℕ) where
-  pub live-more : (r : ℕ) (row : List ℕ) (k : ℕ) {set : ℕ} {a c d : Found} → k < lived → set ≡ usefulSet row (take (w * k + w - w * k) (drop (w * k) live))
-      → Raised (Below (λ x. x .live) k (AtLive b r row (rowsOf w lived live) used)) a c → Raised (OfSet b r k set used) c d
-      → Raised (Below (λ x. x .live) (k + 1) (AtLive b r row (rowsOf w lived live) used)) a d
-  live-more r row k h e p q =
-      raised-more (λ x. x .live) (AtLive b r row (rowsOf w lived live) used) (λ l x s. ap (λ (y : Found). y .live) (s .1)) k p
+module _ (b w lived : ℕ) (live : List ℕ) where
+  pub live-more : (r : ℕ) (row sets : List ℕ) (k : ℕ) {set : ℕ} {a c d : Found} → k < lived → set ≡ usefulSet row (take (w * k + w - w * k) (drop (w * k) live))
+      → Raised (Below (λ x. x .live) k (AtLive b r row (rowsOf w lived live) sets)) a c → Raised (OfSet b r k set sets) c d
+      → Raised (Below (λ x. x .live) (k + 1) (AtLive b r row (rowsOf w lived live) sets)) a d
+  live-more r row sets k h e p q =
+      raised-more (λ x. x .live) (AtLive b r row (rowsOf w lived live) sets) (λ l x s. ap (λ (y : Found). y .live) (s .1)) k p
       (rw (row-lent w lived k live h, ← e) q)
 
-  -- the live rows are as wide as the row that was lent
-  pub reaching-more : (reached : ℕ) (reaching : List ℕ) (k : ℕ) {a c d : Found} → k < reached → length (take (w * k + w - w * k) (drop (w * k) reaching)) ≡ w
-      → Raised (Below (λ x. x .reaching) k (AtReaching b (rowsOf w reached reaching) (rowsOf w lived live) used)) a c
-      → Raised (OfRow b k (take (w * k + w - w * k) (drop (w * k) reaching)) (rowsOf (length (take (w * k + w - w * k) (drop (w * k) reaching))) lived live) used) c d
-      → Raised (Below (λ x. x .reaching) (k + 1) (AtReaching b (rowsOf w reached reaching) (rowsOf w lived live) used)) a d
-  reaching-more reached reaching k h long p q =
-      raised-more (λ x. x .reaching) (AtReaching b (rowsOf w reached reaching) (rowsOf w lived live) used) (λ r x s. ap (λ (y : Found). y .reaching) (s .1 .1)) k p
-      (rw (row-lent w reached k reaching h) (rw long at q))
+  -- the live rows and the end rows are as wide as the row that was lent
+  pub reaching-more : (ended : ℕ) (ends : List ℕ) (reached : ℕ) (reaching : List ℕ) (k : ℕ) {a c d : Found} → k < reached → length (take (w * k + w - w * k) (drop (w * k) reaching)) ≡ w
+      → Raised (Below (λ x. x .reaching) k (AtReaching b (rowsOf w reached reaching) (rowsOf w lived live) (rowsOf w ended ends))) a c
+      → Raised (OfRow b k (take (w * k + w - w * k) (drop (w * k) reaching)) (rowsOf (length (take (w * k + w - w * k) (drop (w * k) reaching))) lived live)
+      (rowsOf (length (take (w * k + w - w * k) (drop (w * k) reaching))) ended ends)) c d
+      → Raised (Below (λ x. x .reaching) (k + 1) (AtReaching b (rowsOf w reached reaching) (rowsOf w lived live) (rowsOf w ended ends))) a d
+  reaching-more ended ends reached reaching k {c = c} {d} h long p q =
+      raised-more (λ x. x .reaching) (AtReaching b (rowsOf w reached reaching) (rowsOf w lived live) (rowsOf w ended ends)) (λ r x s. ap (λ (y : Found). y .reaching) (s .1 .1)) k p
+      (rw (row-lent w reached k reaching h)
+      (subst (λ (n : ℕ). Raised (OfRow b k (take (w * k + w - w * k) (drop (w * k) reaching)) (rowsOf n lived live) (rowsOf n ended ends)) c d) long q))
 
 -- ---- a block more, where it is in the set and where not
 
-module _ (set : ℕ) (rs ls : ℕ → List (List ℕ)) (used : List ℕ) (k : ℕ) {a c : Found} (so-far : Raised (Below (λ x. x .block) k (AtBlock set rs ls used)) a c) where
-  more : {d : Found} → Raised (AtBlock set rs ls used k) c d → Raised (Below (λ x. x .block) (k + 1) (AtBlock set rs ls used)) a d
-  more = raised-more (λ x. x .block) (AtBlock set rs ls used) (λ b x s. ap (λ (y : Found). y .block) (s .1 .1 .1 .1)) k so-far
+module _ (set : ℕ) (rs ls : ℕ → List (List ℕ)) (fs : List (List ℕ)) (k : ℕ) {a c : Found} (so-far : Raised (Below (λ x. x .block) k (AtBlock set rs ls fs)) a c) where
+  more : {d : Found} → Raised (AtBlock set rs ls fs k) c d → Raised (Below (λ x. x .block) (k + 1) (AtBlock set rs ls fs)) a d
+  more = raised-more (λ x. x .block) (AtBlock set rs ls fs) (λ b x s. ap (λ (y : Found). y .block) (s .1 .1 .1 .1)) k so-far
 
   pub block-more : {d : Found} {r l : List (List ℕ)} → inSet set k ≡ true → r ≡ rs k → l ≡ ls k
-      → Raised (OfBlock k r l used) c d → Raised (Below (λ x. x .block) (k + 1) (AtBlock set rs ls used)) a d
+      → Raised (OfBlock k r l fs) c d → Raised (Below (λ x. x .block) (k + 1) (AtBlock set rs ls fs)) a d
   block-more {d} {r} {l} h e f q =
-      let here : Raised (OfBlock k (rs k) (ls k) used) c d = rw (← e, ← f) q in
+      let here : Raised (OfBlock k (rs k) (ls k) fs) c d = rw (← e, ← f) q in
       more (record { above = here .above; most = λ x s. here .most x (s .1); found = elim (here .found) [ inl z ↦ inl z | inr s ↦ inr (h, s) ] })
 
-  pub block-out : inSet set k ≡ false → Raised (Below (λ x. x .block) (k + 1) (AtBlock set rs ls used)) a c
-  block-out h = more (raised-kept (AtBlock set rs ls used k) c (λ x s. absurd (true≢false (sym (s .0) ∙ h))))
+  pub block-out : inSet set k ≡ false → Raised (Below (λ x. x .block) (k + 1) (AtBlock set rs ls fs)) a c
+  block-out h = more (raised-kept (AtBlock set rs ls fs k) c (λ x s. absurd (true≢false (sym (s .0) ∙ h))))

@@ -1,5 +1,5 @@
 -- What States answers is the verdict on its checks: `states-verdict`.
--- The idea: 1 and 15 compare numbers, 2 to 10 are those of the file, and the tasks of an accepted file are within the bounds of check 11's test.
+-- The idea: 1 and 15 compare numbers, 2 to 9 are those of the file, and the tasks of an accepted file are within the bounds of check 11's test.
 use mathlib.Core.Path.{_≡_, refl}
 use mathlib.Core.Logic.{_↔_}
 use mathlib.Core.Bool.{Bool, true, false}
@@ -56,6 +56,6 @@ module _ (w : ℕ) (wide-enough : 16 ≤ w) (s : List ℕ) (h : Bytes s) (j : �
   unfolding fillingOf
   states-verdict = filling-verdict (statesChecks w s j area) states-agreeing
 
-  -- "States checks 1 to 10, 15, then 11 for its task."
-  pub states-order : numbers (statesChecks w s j area) ≡ 1 ∷ 2 ∷ 3 ∷ 4 ∷ 5 ∷ 6 ∷ 7 ∷ 8 ∷ 9 ∷ 10 ∷ 15 ∷ 11 ∷ []
+  -- "States checks 1 to 10, 15, then 11 for its task."; document 02, Point 5: "so 10 is never given any more"
+  pub states-order : numbers (statesChecks w s j area) ≡ 1 ∷ 2 ∷ 3 ∷ 4 ∷ 5 ∷ 6 ∷ 7 ∷ 8 ∷ 9 ∷ 15 ∷ 11 ∷ []
   states-order = refl

@@ -1,4 +1,4 @@
-pub mod UsedLaws
+pub mod EndLaws
 pub mod NumberLaws
 pub mod TableLaws
 pub mod Answers

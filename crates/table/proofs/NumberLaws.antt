@@ -1,15 +1,14 @@
 -- The numbers of a task against all tasks are its pair numbers: `numbers-few`.
--- The idea: what was gathered in the work area are the states of the task, and its useful sets met the used sets of each task.
+-- The idea: what was gathered in the work area are the states of the task, and they were met by the end rows of each task.
 use mathlib.Core.Path.{_≡_, refl, sym, ap, _∙_}
 use mathlib.Core.Bool.{Bool, true, false, true≢false}
 use mathlib.Core.List.{List}
 use Prim.Native.Nat.{ℕ, _≤_, _<_, max}
 use native.Mathlib.Omega.{arith}
-use lib.ListN.{length, getD, take, drop, replicate, length-replicate}
+use lib.ListN.{length, getD, take, drop}
 use Rattle.cache.specs.Cache.{Cache}
-use Rattle.model.specs.Lists.{best}
 use Rattle.model.specs.Tasks.{Task, task}
-use Rattle.model.specs.Computed.{sorted, reaching, living, pairNumber}
+use Rattle.model.specs.Computed.{reaching, living, pairNumber}
 use Rattle.body.specs.Jumps.{unmaskedSet}
 use Rattle.body.proofs.JumpLaws.{in-unmasked}
 use Rattle.rows.specs.Rows.{Width, kindLength}
@@ -20,10 +19,9 @@ use Rattle.graphs.specs.TaskRows.{test11, AreaRows}
 use Rattle.graphs.proofs.Gathered.{held-sorted}
 use Rattle.project.proofs.Accepted.{or-false-left, or-false-right}
 use Rattle.area.proofs.Areas.{few-rows}
-use Rattle.pairs.specs.Pairs.{mostCommon, within, taskUseful, usedOf, Met}
+use Rattle.pairs.specs.Pairs.{within, taskMost, endsOf, Met}
 use Rattle.pairs.proofs.PairNumbers.{pair-number}
-use Rattle.table.specs.Found.{Few, UsedFound, NumbersFound}
-use Rattle.table.proofs.UsedLaws.{getD-zeros}
+use Rattle.table.specs.Found.{Few, EndsFound, NumbersFound}
 
 gathered-memory : {w : ℕ} (all : ℕ → List (List ℕ)) {rows counts : List ℕ} → Width w → length rows ≡ kindLength w → length counts ≡ 24 → tooMany all 24 ≡ false
     → ((b : ℕ) → b < 24 → GatheredRows w all rows counts b) → Memory w rows counts
@@ -33,14 +31,14 @@ gathered-memory all width long many none g =
 -- rows and live are the rows of each kind
 module _ (k : Cache) (t : Task) {area reached lived : List ℕ} {full : Bool} (h : AreaRows k t area reached lived full) where
   -- a block has too many states
-  pub numbers-full : (ts : List Task) (tasks : ℕ) {numbers : List ℕ} → full ≡ true → numbers ≡ replicate 8 0 → NumbersFound k ts tasks t numbers true
-  numbers-full ts tasks e z =
+  pub numbers-full : (ts : List Task) (tasks : ℕ) {numbers : List ℕ} → full ≡ true → length numbers ≡ 8 → NumbersFound k ts tasks t numbers numbers true
+  numbers-full ts tasks e long =
       record {
-        long = ap length z ∙ length-replicate {A = ℕ} 8 0;
+        long = long;
         answer = sym e ∙ h .rows .answer;
         found = λ q. absurd (true≢false q);
         rest = λ q. absurd (true≢false q);
-        refused = λ q. z;
+        refused = λ q. refl;
       }
 
   module _ (few : full ≡ false) where
@@ -58,27 +56,23 @@ module _ (k : Cache) (t : Task) {area reached lived : List ℕ} {full : Bool} (h
           rw second
           (gathered-memory (living k t) width (h .rows .liveLong) (h .rows .liveMany) (or-false-right (tooMany (reaching k t) 24) (tooMany (living k t) 24) none) (h .rows .lived few))
 
-      pub numbers-few : (ts : List Task) (tasks blocks : ℕ) {set : ℕ} {sets counts old new : List ℕ} → blocks ≡ length t → blocks ≤ 24 → set ≡ unmaskedSet t → old ≡ replicate 8 0
-          → UsedFound k ts tasks sets counts
-          → Met (taskUseful (within set (heldRows (k .width) rows reached)) (heldRows (k .width) live lived) blocks 0) sets counts tasks old new
-          → NumbersFound k ts tasks t new false
-      numbers-few ts tasks blocks {set} {sets} {counts} {old} {new} e low masks z used met =
+      pub numbers-few : (ts : List Task) (tasks blocks : ℕ) {set : ℕ} {ends counts unions old new : List ℕ} → blocks ≡ length t → blocks ≤ 24 → set ≡ unmaskedSet t
+          → length old ≡ 8 → EndsFound k ts tasks ends counts unions
+          → Met (taskMost (within set (heldRows (k .width) rows reached)) (heldRows (k .width) live lived) blocks 0) (k .width) ends counts tasks old new
+          → NumbersFound k ts tasks t old new false
+      numbers-few ts tasks blocks {set} {ends} {counts} {unions} {old} {new} e low masks long found met =
           record {
-            long = met .long ∙ ap length z ∙ length-replicate {A = ℕ} 8 0;
+            long = met .long ∙ long;
             answer = sym none;
-            found = λ q j l f. met .each j l ∙ number j l f;
-            rest = λ q j l. met .rest j l ∙ at-first j;
+            found = λ q j l f. met .each j l ∙ ap (max (getD old j 0)) (number j l f);
+            rest = λ q j l. met .rest j l;
             refused = λ q. absurd (true≢false (sym q));
           }
         where
-          at-first : (j : ℕ) → getD old j 0 ≡ 0
-          at-first j = rw z (getD-zeros 8 j)
-
           number : (j : ℕ) → j < tasks → Few k (task ts j)
-              → max (getD old j 0) (best (λ (u : ℕ). mostCommon u (usedOf sets counts j)) (taskUseful (within set (heldRows (k .width) rows reached)) (heldRows (k .width) live lived) blocks 0))
-              ≡ pairNumber k t (task ts j)
+              → taskMost (within set (heldRows (k .width) rows reached)) (heldRows (k .width) live lived) blocks 0 (endsOf (k .width) ends counts j) ≡ pairNumber k t (task ts j)
           number j l f =
-              let p = pair-number k t (task ts j) set (heldRows (k .width) rows reached) (heldRows (k .width) live lived) (usedOf sets counts j)
+              rw e
+              (pair-number k t (task ts j) set (heldRows (k .width) rows reached) (heldRows (k .width) live lived) (endsOf (k .width) ends counts j)
               (λ b i. rw masks (in-unmasked t b i))
-              (λ b i. rw first (held-sorted b (h .rows .reached few b (omega (arith, e))))) (λ b i. rw second (held-sorted b (h .rows .lived few b (omega (arith, e))))) (used .found j l f) in
-              rw (at-first j, e) (omega (arith, p))
+              (λ b i. rw first (held-sorted b (h .rows .reached few b (omega (arith, e))))) (λ b i. rw second (held-sorted b (h .rows .lived few b (omega (arith, e))))) (found .found j l f))

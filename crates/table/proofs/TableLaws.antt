@@ -9,8 +9,8 @@ use native.Mathlib.Nat.{not-suc-le-zero, zero-add, add-zero}
 use native.Mathlib.Numerals.{add-one}
 use native.Mathlib.Omega.{arith}
 use lib.Dec.{eqb, ltb}
-use lib.ListN.{length, getD, set, take, drop, replicate, length-set, length-replicate, length-append, length-drop, drop-of-length-le, List·getD-append}
-use lib.Seq.{getD-set-same, getD-set-other, ext-getD, drop-cons, getD-append-add, getD-take, getD-drop, length-take-le}
+use lib.ListN.{length, getD, set, take, drop, replicate, length-set, length-replicate, length-append, drop-of-length-le, List·getD-append}
+use lib.Seq.{getD-set-same, getD-set-other, ext-getD, drop-cons, getD-append-add, getD-take, getD-drop}
 use borrow.Author.Tests.{eqb-true, eqb-false, ltb-true, ltb-false, lt-ltb, le-ltb, ne-eqb}
 use borrow.Rule.Slice.PartMut.{putMid}
 use Rattle.cache.specs.Cache.{Cache, direct, rowFrom}
@@ -21,7 +21,6 @@ use Rattle.model.specs.Tasks.{Task, task}
 use Rattle.model.specs.Computed.{reaching, living, pairNumber}
 use Rattle.model.proofs.Membership.{eqb-self}
 use Rattle.model.proofs.Width.{pair-width}
-use Rattle.project.specs.declared.answers.Check.{Check}
 use Rattle.project.specs.declared.answers.Check.the-variants.{Passed}
 use Rattle.project.specs.declared.answers.Check.the-variants.{Refused as Failed}
 use Rattle.project.specs.File.{taskCount}
@@ -31,9 +30,10 @@ use Rattle.reader.proofs.TaskBodies.{tasks-long}
 use Rattle.rows.proofs.Parts.{replaced-length, before-it, inside-it, after-it, lent-back}
 use Rattle.gather.specs.Graph.{tooMany}
 use Rattle.graphs.specs.TaskRows.{test11}
+use Rattle.pairs.proofs.ReplacedSets.{lent-long}
 use Rattle.table.specs.Table.{firstFull, entryOf, rowsFrom, tableOf}
 use Rattle.table.specs.Found.{Few, NumbersFound}
-use Rattle.table.proofs.UsedLaws.{getD-zeros}
+use Rattle.table.proofs.EndLaws.{getD-zeros}
 
 -- ---- the places of a table
 
@@ -80,7 +80,8 @@ at-first s c z =
     }
 
 -- what was found, in other words
-pub found-as : {c : Cache} {tasks count : ℕ} {ts : List Task} {u v : Task} {numbers : List ℕ} {full : Bool} → tasks ≡ count → u ≡ v → NumbersFound c ts tasks u numbers full → NumbersFound c ts count v numbers full
+pub found-as : {c : Cache} {tasks count : ℕ} {ts : List Task} {u v : Task} {old numbers : List ℕ} {full : Bool} → tasks ≡ count → u ≡ v → NumbersFound c ts tasks u old numbers full
+    → NumbersFound c ts count v old numbers full
 found-as e f h = rw (← e, ← f) h
 
 module _ (s : List ℕ) (c : Cache) (i : ℕ) (same : (a b : Task) → pairNumber c a b ≡ pairNumber (fileCache s) a b) (below : i < taskCount s) (few : taskCount s ≤ 8) (numbers : List ℕ) (h : SoFar s c i numbers) where
@@ -96,38 +97,60 @@ module _ (s : List ℕ) (c : Cache) (i : ℕ) (same : (a b : Task) → pairNumbe
   pub stops : {full : Bool} {byte : ℕ} → full ≡ test11 c t → full ≡ true → byte ≡ i → Failed 11 byte ≡ firstFull c 0 (tasksOf s)
   stops e q z = ap (Failed 11) z ∙ sym (rw (sym e ∙ q) at next) ∙ h .left
 
-  fits : 8 * i + 8 ≤ length numbers
-  fits = omega (arith, h .long)
+  -- the task's own number is set, and its row is lent
+  abbrev marked : List ℕ
+  marked = set numbers (9 * i) 32
 
-  -- the row of the task holds zeros
-  pub row-zeros : take (8 * i + 8 - 8 * i) (drop (8 * i) numbers) ≡ replicate 8 0
-  row-zeros =
+  abbrev row : List ℕ
+  row = take (8 * i + 8 - 8 * i) (drop (8 * i) marked)
+
+  marked-long : length marked ≡ 64
+  marked-long = length-set numbers (9 * i) 32 ∙ h .long
+
+  fits : 8 * i + 8 ≤ length marked
+  fits = omega (arith, marked-long)
+
+  pub row-long : length row ≡ 8
+  row-long = lent-long 8 i 8 marked (omega arith) marked-long
+
+  -- all its other numbers are 0
+  row-zero : (j : ℕ) → j < 8 → j ≢ i → getD row j 0 ≡ 0
+  row-zero j b d =
       let e : 8 * i + 8 - 8 * i ≡ 8 = omega arith in
       rw e
-      (ext-getD 0 (take 8 (drop (8 * i) numbers)) (replicate 8 0) (eight ∙ sym (length-replicate {A = ℕ} 8 0))
-      (λ x l. let b : x < 8 = rw eight at l in getD-take 8 (drop (8 * i) numbers) x 0 b ∙ getD-drop (8 * i) numbers x 0 ∙ h .rest (8 * i + x) (omega arith) ∙ sym (getD-zeros 8 x)))
-    where
-      eight : length (take 8 (drop (8 * i) numbers)) ≡ 8
-      eight = length-take-le 8 (drop (8 * i) numbers) (rw length-drop (omega (arith, fits)))
+      (getD-take 8 (drop (8 * i) marked) j 0 b
+      ∙ getD-drop (8 * i) marked j 0
+      ∙ getD-set-other numbers (9 * i) (8 * i + j) 32 0 (λ q. d (omega arith))
+      ∙ h .rest (8 * i + j) (omega arith))
 
-  back : (part : List ℕ) → putMid (8 * i) (8 * i + 8 - 8 * i) numbers part ≡ take (8 * i) numbers ++ (part ++ drop (8 * i + 8) numbers)
-  back part = lent-back (8 * i) 8 numbers part
+  back : (part : List ℕ) → putMid (8 * i) (8 * i + 8 - 8 * i) marked part ≡ take (8 * i) marked ++ (part ++ drop (8 * i + 8) marked)
+  back part = lent-back (8 * i) 8 marked part
 
-  pub grown-long : (part : List ℕ) → length part ≡ 8 → length (putMid (8 * i) (8 * i + 8 - 8 * i) numbers part) ≡ 64
-  grown-long part e = ap length (back part) ∙ replaced-length numbers part (8 * i) 8 fits e ∙ h .long
+  pub grown-long : (part : List ℕ) → length part ≡ 8 → length (putMid (8 * i) (8 * i + 8 - 8 * i) marked part) ≡ 64
+  grown-long part e = ap length (back part) ∙ replaced-length marked part (8 * i) 8 fits e ∙ marked-long
 
-  module _ (part : List ℕ) {full : Bool} (new : NumbersFound c (tasksOf s) (taskCount s) t part full) (ok : full ≡ false) where
+  module _ (part : List ℕ) {full : Bool} (new : NumbersFound c (tasksOf s) (taskCount s) t row part full) (ok : full ≡ false) where
     abbrev grown : List ℕ
-    grown = putMid (8 * i) (8 * i + 8 - 8 * i) numbers part
+    grown = putMid (8 * i) (8 * i + 8 - 8 * i) marked part
 
     abbrev more : List ℕ
     more = set grown (9 * i) 0
 
-    other : (x : ℕ) → x ≢ 9 * i → getD more x 0 ≡ getD (take (8 * i) numbers ++ (part ++ drop (8 * i + 8) numbers)) x 0
+    other : (x : ℕ) → x ≢ 9 * i → getD more x 0 ≡ getD (take (8 * i) marked ++ (part ++ drop (8 * i + 8) marked)) x 0
     other x d = getD-set-other grown (9 * i) x 0 0 d ∙ ap (λ (l : List ℕ). getD l x 0) (back part)
 
     earlier : (k j : ℕ) → k < i → j < 8 → getD more (8 * k + j) 0 ≡ getD numbers (8 * k + j) 0
-    earlier k j l b = other (8 * k + j) (λ e. omega arith) ∙ before-it numbers part (8 * i) 8 fits (new .long) (8 * k + j) (omega arith)
+    earlier k j l b =
+        other (8 * k + j) (λ e. omega arith)
+        ∙ before-it marked part (8 * i) 8 fits (new .long) (8 * k + j) (omega arith)
+        ∙ getD-set-other numbers (9 * i) (8 * k + j) 32 0 (λ e. omega arith)
+
+    later : (x : ℕ) → 8 * (i + 1) ≤ x → getD more x 0 ≡ 0
+    later x l =
+        other x (λ e. omega arith)
+        ∙ after-it marked part (8 * i) 8 fits (new .long) x (omega arith)
+        ∙ getD-set-other numbers (9 * i) x 32 0 (λ e. omega arith)
+        ∙ h .rest x (omega arith)
 
     diagonal : getD more (8 * i + i) 0 ≡ entryOf s i i
     diagonal =
@@ -136,13 +159,17 @@ module _ (s : List ℕ) (c : Cache) (i : ℕ) (same : (a b : Task) → pairNumbe
 
     here : (j : ℕ) → j < 8 → j ≢ i → (j < taskCount s → Few c (task (tasksOf s) j)) → getD more (8 * i + j) 0 ≡ entryOf s i j
     here j b d f =
-        other (8 * i + j) (λ e. d (omega arith)) ∙ inside-it numbers part (8 * i) 8 fits (new .long) j b ∙ go (ltb j (taskCount s)) refl
+        other (8 * i + j) (λ e. d (omega arith)) ∙ inside-it marked part (8 * i) 8 fits (new .long) j b ∙ go (ltb j (taskCount s)) refl
       where
+        zero-there : getD row j 0 ≡ 0
+        zero-there = row-zero j b d
+
         go : (x : Bool) → ltb j (taskCount s) ≡ x → getD part j 0 ≡ entryOf s i j
         go true e =
-            rw (lt-ltb i (taskCount s) below, e, ne-eqb i j (λ q. d (sym q)))
-            (new .found ok j (ltb-true j (taskCount s) e) (f (ltb-true j (taskCount s) e)) ∙ same t (task (tasksOf s) j))
-        go false e = rw (lt-ltb i (taskCount s) below, e) (new .rest ok j (ltb-false j (taskCount s) e))
+            let number : getD part j 0 ≡ pairNumber c t (task (tasksOf s) j)
+            = omega (arith, new .found ok j (ltb-true j (taskCount s) e) (f (ltb-true j (taskCount s) e)), zero-there) in
+            rw (lt-ltb i (taskCount s) below, e, ne-eqb i j (λ q. d (sym q))) (number ∙ same t (task (tasksOf s) j))
+        go false e = rw (lt-ltb i (taskCount s) below, e) (new .rest ok j (ltb-false j (taskCount s) e) ∙ zero-there)
 
     row-is : (k j : ℕ) → k < i + 1 → j < 8 → (j < taskCount s → Few c (task (tasksOf s) j)) → getD more (8 * k + j) 0 ≡ entryOf s k j
     row-is k j l b f = go (eqb k i) refl
@@ -162,7 +189,7 @@ module _ (s : List ℕ) (c : Cache) (i : ℕ) (same : (a b : Task) → pairNumbe
           left = sym (rw (sym (new .answer) ∙ ok) at next) ∙ h .left;
           passed = λ k l. passes k l (eqb k i) refl;
           rows = row-is;
-          rest = λ x l. other x (λ e. omega arith) ∙ after-it numbers part (8 * i) 8 fits (new .long) x (omega arith) ∙ h .rest x (omega arith);
+          rest = later;
         }
       where
         passes : (k : ℕ) → k < i + 1 → (x : Bool) → eqb k i ≡ x → test11 c (task (tasksOf s) k) ≡ false

@@ -1,5 +1,5 @@
 -- What Table answers is the verdict on its checks: `table-verdict`.
--- The idea: 1 compares lengths, 2 to 10 are those of the file, and the tasks of an accepted file are within the bounds of check 11's test.
+-- The idea: 1 compares lengths, 2 to 9 are those of the file, and the tasks of an accepted file are within the bounds of check 11's test.
 use mathlib.Core.Path.{_≡_, refl}
 use mathlib.Core.Logic.{_↔_}
 use mathlib.Core.Bool.{true, not}
@@ -44,6 +44,6 @@ module _ (w : ℕ) (wide-enough : 16 ≤ w) (s : List ℕ) (h : Bytes s) (area t
   pub table-verdict : FillingVerdict (tableChecks w s area table) (tableAnswer w s area table)
   table-verdict = filling-verdict (tableChecks w s area table) table-agreeing
 
-  -- "Table checks 1 to 11."
-  pub table-order : numbers (tableChecks w s area table) ≡ 1 ∷ 2 ∷ 3 ∷ 4 ∷ 5 ∷ 6 ∷ 7 ∷ 8 ∷ 9 ∷ 10 ∷ 11 ∷ []
+  -- "Table checks 1 to 11."; document 02, Point 5: "10 is never given any more"
+  pub table-order : numbers (tableChecks w s area table) ≡ 1 ∷ 2 ∷ 3 ∷ 4 ∷ 5 ∷ 6 ∷ 7 ∷ 8 ∷ 9 ∷ 11 ∷ []
   table-order = refl

@@ -1,9 +1,10 @@
 // Table: the pair numbers of all tasks of a file.
+mod ends;
 mod numbers;
-mod used;
 
 ghost use mathlib.Core.Path.{_≡_};
 ghost use mathlib.Core.Bool.{true};
+ghost use Prim.Native.Nat.{_*_};
 ghost use lib.ListN.{length};
 ghost use Rattle.cache.specs.Shape.{shaped, Holds};
 ghost use Rattle.rows.specs.Rows.{Width, areaLength};
@@ -16,6 +17,7 @@ ghost use Rattle.table.specs.Table.{firstFull, tableOf, pickTable, table
 use area::AREA_LENGTH;
 use cache::blocks::CacheShape;
 use cache::numbers::byte_count;
+use ends::find_ends;
 use numbers::find_numbers;
 use project::answers::Check;
 use project::answers::Filling;
@@ -23,7 +25,6 @@ use project::answers::NO_TASK;
 use project::answers::Reading;
 use project::head::head;
 use reader::read_bodies;
-use used::find_used;
 
 // The table gets the numbers.
 fn copy_numbers(numbers: &[u16], table: &mut [u16])
@@ -35,26 +36,38 @@ fn copy_numbers(numbers: &[u16], table: &mut [u16])
     }
 }
 
-// The table of an accepted file, gathered in an area for rows of w places; check 11. What the area holds afterwards is free.
+// The table of an accepted file, gathered in an area for rows of w places, with room for 32 end rows of each of 8 tasks; check 11. What the area
+// and this room hold afterwards is free.
 fn fill_table(
     file: &[u8],
     shape: CacheShape,
     w: usize,
     tasks: usize,
     area: &mut [u16],
+    ends: &mut [u16],
     table: &mut [u16],
 ) -> Filling
     requires { ⌜ (accepted (readingOf (now file)) ≡ true) × (shape ≡ fileShape (now file)) × Holds w shape × Width w × (tasks ≡ taskCount (now file))
-        × (length (now area) ≡ areaLength w) × (length (now table) ≡ 64) ⌝ }
+        × (length (now area) ≡ areaLength w) × (length (now ends) ≡ 8 * (32 * w)) × (length (now table) ≡ 64) ⌝ }
     ensures { λ r. ⌜ (r ≡ pickFilling (firstFull (shaped w shape) 0 (tasksOf (now (file .entry)))))
         × (now (table .exit) ≡ pickTable (firstFull (shaped w shape) 0 (tasksOf (now (file .entry)))) (now (table .entry)) (tableOf (now (file .entry))))
         × (length (now (area .exit)) ≡ areaLength w) ⌝ }
 {
-    let mut sets = [0u32; 256];
     let mut counts = [0usize; 8];
+    let mut unions = [0u32; 8];
     let mut numbers = [0u16; 64];
-    find_used(file, shape, w, tasks, area, &mut sets, &mut counts);
-    match find_numbers(file, shape, w, tasks, area, &sets, &counts, &mut numbers) {
+    find_ends(file, shape, w, tasks, area, ends, &mut counts, &mut unions);
+    match find_numbers(
+        file,
+        shape,
+        w,
+        tasks,
+        area,
+        ends,
+        &counts,
+        &unions,
+        &mut numbers,
+    ) {
         Check::Refused { check, task } => Filling::Refused { check, task },
         Check::Passed => {
             copy_numbers(&numbers, table);
@@ -73,14 +86,18 @@ fn table_of_bodies(file: &[u8], area: &mut [u16], table: &mut [u16]) -> Filling
 {
     match read_bodies(file) {
         Reading::Refused { check, task } => Filling::Refused { check, task },
-        Reading::Accepted { n, t } => fill_table(
-            file,
-            CacheShape { blocks: n },
-            16,
-            byte_count(t),
-            area,
-            table,
-        ),
+        Reading::Accepted { n, t } => {
+            let mut ends = [0u16; 4096];
+            fill_table(
+                file,
+                CacheShape { blocks: n },
+                16,
+                byte_count(t),
+                area,
+                &mut ends,
+                table,
+            )
+        }
     }
 }
 

@@ -1,4 +1,4 @@
-// The pair numbers of all tasks of a file, once the used sets of each are known.
+// The pair numbers of all tasks of a file, once the end rows of each are known.
 ghost use mathlib.Core.Path.{_≡_};
 ghost use mathlib.Core.Bool.{true};
 ghost use mathlib.Core.List.{List};
@@ -13,9 +13,9 @@ ghost use Rattle.project.specs.File.{taskCount};
 ghost use Rattle.project.specs.Reading.{readingOf};
 ghost use Rattle.project.specs.Bodies.{accepted};
 ghost use Rattle.project.specs.Tasks.{tasksOf, fileShape};
-ghost use Rattle.pairs.specs.Pairs.{UsedSets};
+ghost use Rattle.pairs.specs.Pairs.{EndRows};
 ghost use Rattle.table.specs.Table.{firstFull, tableOf};
-ghost use Rattle.table.specs.Found.{UsedFound, NumbersFound};
+ghost use Rattle.table.specs.Found.{EndsFound, NumbersFound};
 use body::block_count;
 use body::masks::unmasked_blocks;
 use cache::blocks::CacheShape;
@@ -25,22 +25,24 @@ use project::answers::Check;
 use reader::task_body;
 use reader::tasks::task_byte;
 
-// The pair numbers of the task of a body, preempted by each task; true where a block has too many states. Told only where the sets are the used sets
-// of some tasks. Left open are the area, and the numbers against tasks with too many reaching states.
+// The numbers of the task of a body, each raised to its pair number preempted by that task; true where a block has too many states. Told only where
+// the end rows are those of some tasks. Left open are the area, and the numbers against tasks with too many reaching states.
 fn task_numbers(
     body: &[u8],
     shape: CacheShape,
     w: usize,
     area: &mut [u16],
-    sets: &[u32],
+    ends: &[u16],
     counts: &[usize],
+    unions: &[u32],
     tasks: usize,
     numbers: &mut [u16],
 ) -> bool
     requires { ⌜ (keptOf (decode (now body)) ≡ true) × Holds w shape × Width w × (length (now area) ≡ areaLength w)
-        × UsedSets (now sets) (now counts) tasks × (now numbers ≡ replicate 8 0) ⌝ }
-    ensures { λ r. ⌜ (length (now (area .exit)) ≡ areaLength w) × ((ts : List Task) → UsedFound (shaped w shape) ts tasks (now (sets .entry)) (now (counts .entry))
-        → NumbersFound (shaped w shape) ts tasks (taskOf (decode (now (body .entry)))) (now (numbers .exit)) r) ⌝ }
+        × EndRows w (now ends) (now counts) (now unions) tasks × (length (now numbers) ≡ 8) ⌝ }
+    ensures { λ r. ⌜ (length (now (area .exit)) ≡ areaLength w) × ((ts : List Task)
+        → EndsFound (shaped w shape) ts tasks (now (ends .entry)) (now (counts .entry)) (now (unions .entry))
+        → NumbersFound (shaped w shape) ts tasks (taskOf (decode (now (body .entry)))) (now (numbers .entry)) (now (numbers .exit)) r) ⌝ }
 {
     let mut reached = [0usize; 24];
     let mut lived = [0usize; 24];
@@ -56,39 +58,44 @@ fn task_numbers(
         &reached,
         &area[kind..kind + kind],
         &lived,
-        sets,
+        ends,
         counts,
+        unions,
         tasks,
         numbers,
     );
     false
 }
 
-// The pair numbers of each task of an accepted file, or the lowest task of which a block has too many states. Left open are the numbers after a
-// refusal, and the area.
+// The pair numbers of each task of an accepted file, or the lowest task of which a block has too many states. A task's own number is 32 for a while,
+// which no row raises, so that the task is not met by its own end rows. Left open are the numbers after a refusal, and the area.
 pub fn find_numbers(
     file: &[u8],
     shape: CacheShape,
     w: usize,
     tasks: usize,
     area: &mut [u16],
-    sets: &[u32],
+    ends: &[u16],
     counts: &[usize],
+    unions: &[u32],
     numbers: &mut [u16],
 ) -> Check
     requires { ⌜ (accepted (readingOf (now file)) ≡ true) × (shape ≡ fileShape (now file)) × Holds w shape × Width w × (tasks ≡ taskCount (now file))
-        × (length (now area) ≡ areaLength w) × UsedFound (shaped w shape) (tasksOf (now file)) tasks (now sets) (now counts) × (now numbers ≡ replicate 64 0) ⌝ }
+        × (length (now area) ≡ areaLength w) × EndsFound (shaped w shape) (tasksOf (now file)) tasks (now ends) (now counts) (now unions)
+        × (now numbers ≡ replicate 64 0) ⌝ }
     ensures { λ r. ⌜ (length (now (area .exit)) ≡ areaLength w) × (r ≡ firstFull (shaped w shape) 0 (tasksOf (now (file .entry))))
         × (r ≡ Passed → now (numbers .exit) ≡ tableOf (now (file .entry))) ⌝ }
 {
     for i in 0..tasks {
+        numbers[9 * i] = 32;
         if task_numbers(
             task_body(file, i),
             shape,
             w,
             area,
-            sets,
+            ends,
             counts,
+            unions,
             tasks,
             &mut numbers[8 * i..8 * i + 8],
         ) {

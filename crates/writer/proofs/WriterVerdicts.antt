@@ -1,5 +1,5 @@
 -- What the writer answers is the verdict on its checks: `writer-verdict`.
--- The idea: 5 to 7 compare numbers, 8 to 10 are those of bodies, and joined bodies of the right sum make a file of the length that is tested.
+-- The idea: 5 to 7 compare numbers, 8 and 9 are those of bodies, and joined bodies of the right sum make a file of the length that is tested.
 use mathlib.Core.Path.{_≡_, refl, sym}
 use mathlib.Core.Logic.{_↔_}
 use mathlib.Core.Bool.{Bool, true, false}
@@ -54,7 +54,7 @@ module _ (n : ℕ) (s ls out : List ℕ) where
         differ-exact (total ls) (length s),
         λ p7. agreeing-append (taskChecks (cut s ls))
             (one 14 noTask (ltb (length out) (fileLength s ls)) (Fault14 n s ls out) ∷ []) (tasks-agreeing (cut s ls) (cut-bytes s ls h))
-            (λ p10. (exact14 (sum-right p7), λ p14. tt)),
+            (λ p9. (exact14 (sum-right p7), λ p14. tt)),
       ),
     ),
   )
@@ -67,6 +67,6 @@ module _ (n : ℕ) (s ls out : List ℕ) where
       go Passed e v = (v, sym (length-written n s ls out (all-passed n s ls out e .sum)))
       go (Failed c a) e v = v
 
-  -- "Writer checks 5, 6 .., 7 .., 8, 9, 10, 14."
-  pub writer-order : numbers (writerChecks n s ls out) ≡ 5 ∷ 6 ∷ 7 ∷ 8 ∷ 9 ∷ 10 ∷ 14 ∷ []
+  -- "Writer checks 5, 6 .., 7 .., 8, 9, 10, 14."; document 02, Point 5: "so 10 is never given any more"
+  pub writer-order : numbers (writerChecks n s ls out) ≡ 5 ∷ 6 ∷ 7 ∷ 8 ∷ 9 ∷ 14 ∷ []
   writer-order = refl

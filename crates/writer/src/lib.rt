@@ -11,7 +11,7 @@ use reader::tasks::check_tasks;
 mod ends;
 mod put;
 
-// The first of the checks 5 to 10 and 14 that fails.
+// The first of the checks 5 to 9 and 14 that fails.
 fn first_failed(n: u8, bodies: &[u8], lengths: &[usize], out: &[u8]) -> Check
     ensures { λ r. ⌜ r ≡ writerCheck n (now (bodies .entry)) (now (lengths .entry)) (now (out .entry)) ⌝ }
 {

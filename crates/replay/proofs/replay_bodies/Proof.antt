@@ -44,17 +44,11 @@ enum-known-check-2 c = search needs
 enum-told : tie.Need-enum-told
 enum-told c = search needs
 
-undisturbed-requires : tie.Need-undisturbed-requires
-undisturbed-requires c κs =
+run-counts-requires : tie.Need-run-counts-requires
+run-counts-requires c κs =
     let n = c .before .before .before .before .before in
     let args = n .before .before .before .before .before .args in
     (ready (args .file .now) (args .sheet .now) (reading n) (passed c), shape-of (args .file .now) (args .sheet .now) (reading n))
-
-disturbed-requires : tie.Need-disturbed-requires
-disturbed-requires c κs =
-    let n = c .before .before .before .before .before .before in
-    let args = n .before .before .before .before .before .args in
-    (ready (args .file .now) (args .sheet .now) (reading n) (passed (c .before)), shape-of (args .file .now) (args .sheet .now) (reading n))
 
 returns : tie.Need-returns
 returns c =
@@ -70,10 +64,10 @@ returns-2 c =
 
 returns-3 : tie.Need-returns-3
 returns-3 c =
-    let told = c .before .before in
+    let told = c .before in
     let n = told .before .before .before .before .before in
     let args = n .before .before .before .before .before .args in
-    call-counted (args .file .now) (args .sheet .now) (reading n) (passed told) (c .before .undisturbed .ensures) (c .disturbed .ensures)
+    call-counted (args .file .now) (args .sheet .now) (reading n) (passed told) (c .run-counts .ensures)
 
 pub replay-bodies-spec : {M : Type 1} → statement M
 replay-bodies-spec =
@@ -86,8 +80,7 @@ replay-bodies-spec =
     check-sheet-requires
     enum-known-check-2
     enum-told
-    undisturbed-requires
-    disturbed-requires
+    run-counts-requires
     returns
     returns-2
     returns-3)

@@ -1,4 +1,4 @@
--- `over_ends` meets its contract: after e turns the first e used sets are met. Assumes nothing.
+-- `over_ends` meets its contract: after e turns the first e replaced sets are met. Assumes nothing.
 use mathlib.Core.Path.{_≡_}
 use mathlib.Core.Logic.{inl, inr}
 use Prim.Native.Nat.{_-_, _^_, _≤_, _<_}
@@ -11,22 +11,22 @@ use Rattle.search.proofs.over_ends.Statement.{statement}
 use Rattle.search.proofs.over_ends.Tie as tie
 
 abbrev Inv-loop : tie.InvT-loop
-Inv-loop block reaching live set used found₀ e₀ e-end found e =
-    (e ≤ length used) × Raised (Below (λ x. x .ending) e (AtEnd block reaching live set used)) found₀ found
+Inv-loop block reaching live set sets found₀ e₀ e-end found e =
+    (e ≤ length sets) × Raised (Below (λ x. x .ending) e (AtEnd block reaching live set sets)) found₀ found
 
 abbrev μ-loop : tie.MeasureT-loop
-μ-loop block reaching live set used found₀ e₀ e-end found e = length used - e
+μ-loop block reaching live set sets found₀ e₀ e-end found e = length sets - e
 
 returns : tie.Need-returns Inv-loop μ-loop
 returns c =
     let args = c .before .before .before .args in
     let fits : args .set < 2 ^ 32 = search needs in
-    set-skipped (args .block) (args .reaching) (args .live) (args .set) (args .used .now) (args .old) fits (c .if1 .taken)
+    set-skipped (args .block) (args .reaching) (args .live) (args .set) (args .sets .now) (args .old) fits (c .if1 .taken)
 
 loop-holds : tie.Need-loop-holds Inv-loop μ-loop
 loop-holds c =
     let args = c .before .before .before .args in
-    (omega arith, raised-none (λ x. x .ending) (AtEnd (args .block) (args .reaching) (args .live) (args .set) (args .used .now)) (args .old))
+    (omega arith, raised-none (λ x. x .ending) (AtEnd (args .block) (args .reaching) (args .live) (args .set) (args .sets .now)) (args .old))
 
 mul-common : tie.Need-mul-common Inv-loop μ-loop
 mul-common c = search needs
@@ -48,17 +48,17 @@ loop-again c =
     let at = c .before .before .before .before .before .loop in
     let args = c .before .before .before .before .before .before .before .before .before .args in
     let count = c .before .before .common .ensures in
-    let met : Raised (AtEnd (args .block) (args .reaching) (args .live) (args .set) (args .used .now) (at .e)) (at .found) (c .if2 .found)
+    let met : Raised (AtEnd (args .block) (args .reaching) (args .live) (args .set) (args .sets .now) (at .e)) (at .found) (c .if2 .found)
     = elim (c .if2 .came) [
-      | inl w ↦ end-raised (args .block) (args .reaching) (args .live) (args .set) (args .used .now) (at .e) (at .found) count (w .0 .taken) (w .1)
-      | inr w ↦ end-kept (args .block) (args .reaching) (args .live) (args .set) (args .used .now) (at .e) (at .found) count (omega arith) (w .1)
+      | inl w ↦ end-raised (args .block) (args .reaching) (args .live) (args .set) (args .sets .now) (at .e) (at .found) count (w .0 .taken) (w .1)
+      | inr w ↦ end-kept (args .block) (args .reaching) (args .live) (args .set) (args .sets .now) (at .e) (at .found) count (omega arith) (w .1)
     ] in
-    (omega arith, end-more (args .block) (args .reaching) (args .live) (args .set) (args .used .now) (at .e) (at .inv .1) met)
+    (omega arith, end-more (args .block) (args .reaching) (args .live) (args .set) (args .sets .now) (at .e) (at .inv .1) met)
 
 returns-2 : tie.Need-returns-2 Inv-loop μ-loop
 returns-2 c =
     let at = c .before .loop in
-    let end : at .e ≡ length (c .before .before .before .before .before .args .used .now) = omega arith in
+    let end : at .e ≡ length (c .before .before .before .before .before .args .sets .now) = omega arith in
     rw end at (at .inv .1)
 
 pub over-ends-spec : {M : Type 1} → statement M

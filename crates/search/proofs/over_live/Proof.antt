@@ -6,18 +6,18 @@ use borrow.Author.Needs.{needs}
 use lib.ListN.{length}
 use Rattle.rows.specs.Rows.{rowsOf}
 use Rattle.rows.proofs.Parts.{row-within, rows-length}
-use Rattle.pairs.proofs.UsedSets.{lent-long}
+use Rattle.pairs.proofs.ReplacedSets.{lent-long}
 use Rattle.search.specs.Search.{Raised, Below, AtLive}
 use Rattle.search.proofs.Raising.{raised-none, live-more}
 use Rattle.search.proofs.over_live.Statement.{statement}
 use Rattle.search.proofs.over_live.Tie as tie
 
 abbrev Inv-loop : tie.InvT-loop
-Inv-loop block reaching row live lived used w found₀ l₀ found l =
-    (l ≤ lived) × Raised (Below (λ x. x .live) l (AtLive block reaching row (rowsOf (length row) lived live) used)) found₀ found
+Inv-loop block reaching row live lived sets w found₀ l₀ found l =
+    (l ≤ lived) × Raised (Below (λ x. x .live) l (AtLive block reaching row (rowsOf (length row) lived live) sets)) found₀ found
 
 abbrev μ-loop : tie.MeasureT-loop
-μ-loop block reaching row live lived used w found₀ l₀ found l = lived - l
+μ-loop block reaching row live lived sets w found₀ l₀ found l = lived - l
 
 -- where the live row numbered l ends
 inside : (c : tie.In-loop Inv-loop μ-loop) → let w = length (c .before .before .before .before .before .args .row .now) in
@@ -29,7 +29,7 @@ inside c =
 loop-holds : tie.Need-loop-holds Inv-loop μ-loop
 loop-holds c =
     let args = c .before .before .before .args in
-    (omega arith, raised-none (λ x. x .live) (AtLive (args .block) (args .reaching) (args .row .now) (rowsOf (length (args .row .now)) (args .lived) (args .live .now)) (args .used .now)) (args .old))
+    (omega arith, raised-none (λ x. x .live) (AtLive (args .block) (args .reaching) (args .row .now) (rowsOf (length (args .row .now)) (args .lived) (args .live .now)) (args .sets .now)) (args .old))
 
 mul-at : tie.Need-mul-at Inv-loop μ-loop
 mul-at c = omega (arith, inside c)
@@ -69,7 +69,7 @@ loop-again c =
     let at = c .before .before .before .before .loop in
     let args = c .before .before .before .before .before .before .before .before .args in (
       omega arith,
-      live-more (args .block) (length (args .row .now)) (args .lived) (args .live .now) (args .used .now) (args .reaching) (args .row .now) (at .l) (omega arith)
+      live-more (args .block) (length (args .row .now)) (args .lived) (args .live .now) (args .reaching) (args .row .now) (args .sets .now) (at .l) (omega arith)
           (c .before .useful .ensures) (at .inv .1) (c .over-ends .ensures),
     )
 

@@ -6,18 +6,18 @@ use borrow.Author.Needs.{needs}
 use lib.ListN.{length}
 use Rattle.rows.specs.Rows.{rowsOf}
 use Rattle.rows.proofs.Parts.{row-within, rows-length}
-use Rattle.pairs.proofs.UsedSets.{lent-long, lent-width}
+use Rattle.pairs.proofs.ReplacedSets.{lent-long, lent-width}
 use Rattle.search.specs.Search.{Raised, Below, AtReaching}
 use Rattle.search.proofs.Raising.{raised-none, reaching-more}
 use Rattle.search.proofs.over_reaching.Statement.{statement}
 use Rattle.search.proofs.over_reaching.Tie as tie
 
 abbrev Inv-loop : tie.InvT-loop
-Inv-loop block w reaching reached live lived used found₀ k₀ found k =
-    (k ≤ reached) × Raised (Below (λ x. x .reaching) k (AtReaching block (rowsOf w reached reaching) (rowsOf w lived live) used)) found₀ found
+Inv-loop block w reaching reached live lived ends ended found₀ k₀ found k =
+    (k ≤ reached) × Raised (Below (λ x. x .reaching) k (AtReaching block (rowsOf w reached reaching) (rowsOf w lived live) (rowsOf w ended ends))) found₀ found
 
 abbrev μ-loop : tie.MeasureT-loop
-μ-loop block w reaching reached live lived used found₀ k₀ found k = reached - k
+μ-loop block w reaching reached live lived ends ended found₀ k₀ found k = reached - k
 
 -- where the reaching row numbered k ends
 inside : (c : tie.In-loop Inv-loop μ-loop) → let w = c .before .before .before .before .before .args .w in
@@ -29,33 +29,33 @@ inside c =
 loop-holds : tie.Need-loop-holds Inv-loop μ-loop
 loop-holds c =
     let args = c .before .before .before .args in
-    (omega arith, raised-none (λ x. x .reaching) (AtReaching (args .block) (rowsOf (args .w) (args .reached) (args .reaching .now)) (rowsOf (args .w) (args .lived) (args .live .now)) (args .used .now)) (args .old))
+    (omega arith, raised-none (λ x. x .reaching) (AtReaching (args .block) (rowsOf (args .w) (args .reached) (args .reaching .now)) (rowsOf (args .w) (args .lived) (args .live .now)) (rowsOf (args .w) (args .ended) (args .ends .now))) (args .old))
 
 mul-at : tie.Need-mul-at Inv-loop μ-loop
 mul-at c = omega (arith, inside c)
 
-add-over-live : tie.Need-add-over-live Inv-loop μ-loop
-add-over-live c = omega (arith, inside c)
+add-over-row : tie.Need-add-over-row Inv-loop μ-loop
+add-over-row c = omega (arith, inside c)
 
-mul-over-live : tie.Need-mul-over-live Inv-loop μ-loop
-mul-over-live c = omega (arith, inside c)
+mul-over-row : tie.Need-mul-over-row Inv-loop μ-loop
+mul-over-row c = omega (arith, inside c)
 
-sub-over-live : tie.Need-sub-over-live Inv-loop μ-loop
-sub-over-live c = search needs
+sub-over-row : tie.Need-sub-over-row Inv-loop μ-loop
+sub-over-row c = search needs
 
-part-over-live-start : tie.Need-part-over-live-start Inv-loop μ-loop
-part-over-live-start c = search needs
+part-over-row-start : tie.Need-part-over-row-start Inv-loop μ-loop
+part-over-row-start c = search needs
 
-part-over-live-end : tie.Need-part-over-live-end Inv-loop μ-loop
-part-over-live-end c = omega (arith, inside c)
+part-over-row-end : tie.Need-part-over-row-end Inv-loop μ-loop
+part-over-row-end c = omega (arith, inside c)
 
-over-live-requires : tie.Need-over-live-requires Inv-loop μ-loop
-over-live-requires c κs =
+over-row-requires : tie.Need-over-row-requires Inv-loop μ-loop
+over-row-requires c κs =
     let start = c .before .before .before .before .before .before in
     let args = start .args in
     let k = c .before .before .loop .k in
     let long = lent-long (args .w) k 32 (args .reaching .now) (omega arith) (start .pre .1) in
-    (lent-width (args .w) k 32 (args .reaching .now) (omega arith) (start .pre .1) (start .pre .0), start .pre .3 ∙ ap (λ (n : ℕ). 32 * n) (sym long), start .pre .4)
+    (lent-width (args .w) k 32 (args .reaching .now) (omega arith) (start .pre .1) (start .pre .0), start .pre .3 ∙ ap (λ (n : ℕ). 32 * n) (sym long), start .pre .4, start .pre .5 ∙ ap (λ (n : ℕ). 32 * n) (sym long), start .pre .6)
 
 add-k : tie.Need-add-k Inv-loop μ-loop
 add-k c = search needs
@@ -69,8 +69,8 @@ loop-again c =
     let start = c .before .before .before .before .before .before .before in
     let args = start .args in (
       omega arith,
-      reaching-more (args .block) (args .w) (args .lived) (args .live .now) (args .used .now) (args .reached) (args .reaching .now) (at .k) (omega arith)
-          (lent-long (args .w) (at .k) 32 (args .reaching .now) (omega arith) (start .pre .1)) (at .inv .1) (c .over-live .ensures),
+      reaching-more (args .block) (args .w) (args .lived) (args .live .now) (args .ended) (args .ends .now) (args .reached) (args .reaching .now) (at .k) (omega arith)
+          (lent-long (args .w) (at .k) 32 (args .reaching .now) (omega arith) (start .pre .1)) (at .inv .1) (c .over-row .ensures),
     )
 
 returns : tie.Need-returns Inv-loop μ-loop
@@ -88,12 +88,12 @@ over-reaching-spec =
     μ-loop
     loop-holds
     mul-at
-    add-over-live
-    mul-over-live
-    sub-over-live
-    part-over-live-start
-    part-over-live-end
-    over-live-requires
+    add-over-row
+    mul-over-row
+    sub-over-row
+    part-over-row-start
+    part-over-row-end
+    over-row-requires
     add-k
     loop-less
     loop-again

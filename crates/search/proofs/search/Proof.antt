@@ -5,9 +5,10 @@ use Prim.Native.Nat.{_+_, _*_, _-_, _≤_}
 use native.Mathlib.Omega.{arith}
 use borrow.Author.Needs.{needs}
 use Rattle.cache.proofs.Members.{in-word, out-word}
+use Rattle.rows.specs.Rows.{rowsOf}
 use Rattle.rows.proofs.Parts.{row-within}
 use Rattle.gather.specs.Memory.{heldRows}
-use Rattle.pairs.proofs.UsedSets.{lent-long}
+use Rattle.pairs.proofs.ReplacedSets.{lent-long}
 use Rattle.pairs.proofs.Meeting.{held-at}
 use Rattle.search.specs.Search.{Raised, Below, AtBlock, start}
 use Rattle.search.proofs.Raising.{raised-none, block-more, block-out}
@@ -15,11 +16,11 @@ use Rattle.search.proofs.search.Statement.{statement}
 use Rattle.search.proofs.search.Tie as tie
 
 abbrev Inv-loop : tie.InvT-loop
-Inv-loop w blocks unmasked reaching reached live lived used part found₀ b₀ found b =
-    (b ≤ blocks) × Raised (Below (λ x. x .block) b (AtBlock unmasked (heldRows w reaching reached) (heldRows w live lived) used)) (start unmasked blocks) found
+Inv-loop w blocks unmasked reaching reached live lived ends ended part found₀ b₀ found b =
+    (b ≤ blocks) × Raised (Below (λ x. x .block) b (AtBlock unmasked (heldRows w reaching reached) (heldRows w live lived) (rowsOf w ended ends))) (start unmasked blocks) found
 
 abbrev μ-loop : tie.MeasureT-loop
-μ-loop w blocks unmasked reaching reached live lived used part found₀ b₀ found b = blocks - b
+μ-loop w blocks unmasked reaching reached live lived ends ended part found₀ b₀ found b = blocks - b
 
 -- where the rows of block b end
 inside : (c : tie.In-loop Inv-loop μ-loop) → let w = c .before .before .before .before .before .before .before .before .args .w in
@@ -39,7 +40,7 @@ loop-holds c =
     let args = c .before .before .before .before .before .before .args in (
       omega arith,
       rw (c .first-in .ensures) (raised-none (λ x. x .block)
-          (AtBlock (args .unmasked) (heldRows (args .w) (args .reaching .now) (args .reached .now)) (heldRows (args .w) (args .live .now) (args .lived .now)) (args .used .now))
+          (AtBlock (args .unmasked) (heldRows (args .w) (args .reaching .now) (args .reached .now)) (heldRows (args .w) (args .live .now) (args .lived .now)) (rowsOf (args .w) (args .ended) (args .ends .now)))
           (start (args .unmasked) (args .blocks))),
     )
 
@@ -104,6 +105,8 @@ over-reaching-requires c κs =
       first .pre .1 .few (at .b) (omega arith),
       lent-long (32 * args .w) (at .b) 24 (args .live .now) (omega arith) (first .pre .2 .long),
       first .pre .2 .few (at .b) (omega arith),
+      first .pre .3,
+      first .pre .4,
     )
 
 add-b : tie.Need-add-b Inv-loop μ-loop
@@ -118,12 +121,12 @@ loop-again c =
     let args = c .before .before .before .before .before .before .before .before .before .args in
     let rs = heldRows (args .w) (args .reaching .now) (args .reached .now) in
     let ls = heldRows (args .w) (args .live .now) (args .lived .now) in
-    let next : Raised (Below (λ x. x .block) (at .b + 1) (AtBlock (args .unmasked) rs ls (args .used .now))) (start (args .unmasked) (args .blocks)) (c .if1 .found)
+    let next : Raised (Below (λ x. x .block) (at .b + 1) (AtBlock (args .unmasked) rs ls (rowsOf (args .w) (args .ended) (args .ends .now)))) (start (args .unmasked) (args .blocks)) (c .if1 .found)
     = elim (c .if1 .came) [
       | inl w ↦ rw (w .6)
-          (block-more (args .unmasked) rs ls (args .used .now) (at .b) (at .inv .1) (in-word 32 (args .unmasked) (at .b) (omega arith) (w .0 .taken))
+          (block-more (args .unmasked) rs ls (rowsOf (args .w) (args .ended) (args .ends .now)) (at .b) (at .inv .1) (in-word 32 (args .unmasked) (at .b) (omega arith) (w .0 .taken))
           (held-at (args .w) (args .reaching .now) (args .reached .now) (at .b)) (held-at (args .w) (args .live .now) (args .lived .now) (at .b)) (w .5 .ensures))
-      | inr w ↦ rw (w .1) (block-out (args .unmasked) rs ls (args .used .now) (at .b) (at .inv .1) (out-word 32 (args .unmasked) (at .b) (omega arith) (w .0 .left)))
+      | inr w ↦ rw (w .1) (block-out (args .unmasked) rs ls (rowsOf (args .w) (args .ended) (args .ends .now)) (at .b) (at .inv .1) (out-word 32 (args .unmasked) (at .b) (omega arith) (w .0 .left)))
     ] in
     (omega arith, next)
 

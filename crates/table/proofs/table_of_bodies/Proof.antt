@@ -2,6 +2,7 @@
 use mathlib.Core.Path.{_≡_, refl, sym, ap, _∙_}
 use Prim.Native.Nat.{ℕ}
 use native.Mathlib.Omega.{arith}
+use lib.ListN.{length-replicate}
 use Rattle.cache.specs.declared.blocks.CacheShape.{CacheShape}
 use Rattle.project.specs.declared.answers.Reading.the-variants.{Accepted}
 use Rattle.project.specs.Reading.{readingOf}
@@ -29,12 +30,23 @@ enum-known-n c = search needs
 byte-count-requires : tie.Need-byte-count-requires
 byte-count-requires c κs = search needs
 
+slice-aggregate-fill-table : tie.Need-slice-aggregate-fill-table
+slice-aggregate-fill-table c = search needs
+
 fill-table-requires : tie.Need-fill-table-requires
 fill-table-requires c κs =
-    let start = c .before .before .before .before .before .before .before .before .before .before in
-    let e = reading (c .before .before .before .before) in
-    let (q, en, et) = accepted-passed (start .args .file .now) _ _ e in
-    (ap accepted e, ap (λ (n : ℕ). record { blocks = n }) en, file-holds 16 (omega arith) (start .args .file .now) q en, record { chunks = refl; narrow = omega arith }, c .before .before .byte-count .ensures .0 ∙ et, start .pre .1, start .pre .2)
+    let start = c .before .before .before .before .before .before .before .before .before .before .before in
+    let e = reading (c .before .before .before .before .before) in
+    let (q, en, et) = accepted-passed (start .args .file .now) _ _ e in (
+      ap accepted e,
+      ap (λ (n : ℕ). record { blocks = n }) en,
+      file-holds 16 (omega arith) (start .args .file .now) q en,
+      record { chunks = refl; narrow = omega arith },
+      c .before .before .before .byte-count .ensures .0 ∙ et,
+      start .pre .1,
+      length-replicate {A = ℕ} 4096 0,
+      start .pre .2,
+    )
 
 returns : tie.Need-returns
 returns c =
@@ -44,17 +56,17 @@ returns c =
     (out .0, out .1, start .pre .1)
 
 same-length : tie.Need-same-length
-same-length c = c .before .before .before .before .fill-table .ensures .2 ∙ sym (c .before .before .before .before .before .before .before .before .before .before .before .before .before .before .before .pre .1)
+same-length c = c .before .before .before .before .before .fill-table .ensures .2 ∙ sym (c .before .before .before .before .before .before .before .before .before .before .before .before .before .before .before .before .before .pre .1)
 
 same-length-2 : tie.Need-same-length-2
 same-length-2 c = search needs
 
 returns-2 : tie.Need-returns-2
 returns-2 c =
-    let start = c .before .before .before .before .before .before .before .before .before .before .before .before .before .before .before in
+    let start = c .before .before .before .before .before .before .before .before .before .before .before .before .before .before .before .before .before in
     let args = start .args in
-    let filled = c .before .before .before .before .fill-table .ensures in
-    let (q, en, et) = accepted-passed (args .file .now) _ _ (reading (c .before .before .before .before .before .before .before .before .before)) in
+    let filled = c .before .before .before .before .before .fill-table .ensures in
+    let (q, en, et) = accepted-passed (args .file .now) _ _ (reading (c .before .before .before .before .before .before .before .before .before .before .before)) in
     let same : _≡_ {A = CacheShape} (record { blocks = _ }) (fileShape (args .file .now)) = ap (λ (n : ℕ). record { blocks = n }) en in
     let out = as-filled 16 (args .file .now) (args .area .now) (args .table .now) (start .pre .1) (start .pre .2) q same (filled .0) (filled .1) in
     (out .0, out .1, filled .2)
@@ -67,6 +79,7 @@ table-of-bodies-spec =
     enum-known-check
     enum-known-n
     byte-count-requires
+    slice-aggregate-fill-table
     fill-table-requires
     returns
     same-length

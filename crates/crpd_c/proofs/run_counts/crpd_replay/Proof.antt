@@ -8,7 +8,7 @@ use Rattle.crpd_c.proofs.run_counts.crpd_replay.Tie as tie
 
 returns : tie.Need-returns
 returns c =
-    let e = wrong 3 (c .before .before .before .before .args .answer .now) (c .if1 .taken) in
+    let e = wrong 4 (c .before .before .before .before .args .answer .now) (c .if1 .taken) in
     (rw e, rw e)
 
 replay-requires : tie.Need-replay-requires
@@ -17,11 +17,11 @@ replay-requires c κs = search needs
 enum-known-undisturbed : tie.Need-enum-known-undisturbed
 enum-known-undisturbed c = search needs
 
-cast-put-words : tie.Need-cast-put-words
-cast-put-words c = search needs
+cast-put-four : tie.Need-cast-put-four
+cast-put-four c = search needs
 
-put-words-requires : tie.Need-put-words-requires
-put-words-requires c κs = search needs
+put-four-requires : tie.Need-put-four-requires
+put-four-requires c κs = search needs
 
 enum-known-check : tie.Need-enum-known-check
 enum-known-check c = search needs
@@ -29,8 +29,8 @@ enum-known-check c = search needs
 byte-word-requires : tie.Need-byte-word-requires
 byte-word-requires c κs = search needs
 
-put-words-requires-2 : tie.Need-put-words-requires-2
-put-words-requires-2 c κs = search needs
+put-four-requires-2 : tie.Need-put-four-requires-2
+put-four-requires-2 c κs = search needs
 
 same-length : tie.Need-same-length
 same-length c = search needs
@@ -41,7 +41,7 @@ returns-2 c =
     let h = c .before .before .before .before .before .before .before .before .if1 .left in
     let told = c .before .before .before .before .before .before .before .replay .ensures in
     let met = c .before .before .before .before .before .undisturbed .given .1 in
-    answered statusOfReplaying numbersOfReplaying 3 answer h told met (c .before .before .put-words .ensures)
+    answered statusOfReplaying numbersOfReplaying 4 answer h told met (c .before .before .put-four .ensures)
 
 same-length-2 : tie.Need-same-length-2
 same-length-2 c = search needs
@@ -52,7 +52,7 @@ returns-3 c =
     let h = c .before .before .before .before .before .before .before .before .before .if1 .left in
     let told = c .before .before .before .before .before .before .before .before .replay .ensures in
     let met = c .before .before .before .before .before .before .check .given .1 in
-    answered statusOfReplaying numbersOfReplaying 3 answer h told met (first (c .before .before .put-words2 .ensures) (c .before .before .before .byte-word .ensures .0))
+    answered statusOfReplaying numbersOfReplaying 4 answer h told met (first (c .before .before .put-four2 .ensures) (c .before .before .before .byte-word .ensures .0))
 
 pub crpd-replay-spec : {M : Type 1} → statement M
 crpd-replay-spec =
@@ -61,11 +61,11 @@ crpd-replay-spec =
     returns
     replay-requires
     enum-known-undisturbed
-    cast-put-words
-    put-words-requires
+    cast-put-four
+    put-four-requires
     enum-known-check
     byte-word-requires
-    put-words-requires-2
+    put-four-requires-2
     same-length
     returns-2
     same-length-2

@@ -1,37 +1,36 @@
--- `numbers::meet_block` meets its contract: after k turns the useful sets of the first k reaching rows are met. Assumes nothing.
-use mathlib.Core.Path.{_≡_, sym, ap, _∙_}
+-- `numbers::meet_block` meets its contract: after k turns the first k reaching rows are met. Assumes nothing.
+use mathlib.Core.Path.{_≡_, refl, sym, ap, _∙_}
 use Prim.Native.Nat.{ℕ, _+_, _*_, _-_, _≤_}
 use native.Mathlib.Omega.{arith}
 use borrow.Author.Needs.{needs}
-use lib.ListN.{length}
+use lib.ListN.{length, take, drop}
 use Rattle.rows.specs.Rows.{rowsOf}
 use Rattle.rows.proofs.Parts.{row-within}
-use Rattle.pairs.specs.Pairs.{blockUseful, Met, Absorbed}
-use Rattle.pairs.proofs.UsedSets.{lent-long, lent-width}
-use Rattle.pairs.proofs.Meeting.{met-none, met-block}
+use Rattle.pairs.specs.Pairs.{blockMost, Met}
+use Rattle.pairs.proofs.ReplacedSets.{lent-long}
+use Rattle.pairs.proofs.Meeting.{met-none, met-block, as-wide}
 use Rattle.pairs.proofs.numbers.meet_block.Statement.{statement}
 use Rattle.pairs.proofs.numbers.meet_block.Tie as tie
 
 abbrev Inv-loop : tie.InvT-loop
-Inv-loop w reaching reached live lived used counts tasks met₀ numbers₀ k₀ met numbers k =
-    (k ≤ reached) × (length numbers ≡ 8)
-    × Met (blockUseful (rowsOf w k reaching) (rowsOf w lived live)) used counts tasks numbers₀ numbers × Absorbed met used counts tasks numbers
+Inv-loop w reaching reached live lived ends counts unions tasks numbers₀ k₀ numbers k =
+    (k ≤ reached) × (length numbers ≡ 8) × Met (blockMost (rowsOf w k reaching) (rowsOf w lived live)) w ends counts tasks numbers₀ numbers
 
 abbrev μ-loop : tie.MeasureT-loop
-μ-loop w reaching reached live lived used counts tasks met₀ numbers₀ k₀ met numbers k = reached - k
+μ-loop w reaching reached live lived ends counts unions tasks numbers₀ k₀ numbers k = reached - k
 
 -- where the reaching row numbered k ends
-inside : (c : tie.In-loop Inv-loop μ-loop) → let w = c .before .before .before .before .before .before .before .args .w in
-    (w * c .before .loop .k + w ≤ 32 * w) × (w ≤ 32)
+inside : (c : tie.In-loop Inv-loop μ-loop) → let w = c .before .before .before .before .before .before .before .before .args .w in (w * c .before .loop .k + w ≤ 32 * w) × (w ≤ 32)
 inside c =
-    let start = c .before .before .before .before .before .before .before in
-    (omega (arith, row-within (start .args .w) (c .before .loop .k) 32 (omega arith)), start .pre .0 .narrow)
+    let start = c .before .before .before .before .before .before .before .before in
+    (omega (arith, row-within (start .args .w) (c .before .loop .k) 32 (omega arith)), start .pre .4 .width .narrow)
 
 loop-holds : tie.Need-loop-holds Inv-loop μ-loop
 loop-holds c =
-    let start = c .before .before .before .before .before in
+    let start = c .before .before .before .before .before .before in
     let args = start .args in
-    (omega arith, start .pre .6, met-none (args .used .now) (args .counts .now) (args .tasks) (args .numbers .now), start .pre .7)
+    let none = blockMost (rowsOf (args .w) 0 (args .reaching .now)) (rowsOf (args .w) (args .lived) (args .live .now)) in
+    (omega arith, start .pre .5, met-none (args .w) (args .ends .now) (args .counts .now) none (args .tasks) (args .numbers .now) (λ fs. refl))
 
 mul-at : tie.Need-mul-at Inv-loop μ-loop
 mul-at c = omega (arith, inside c)
@@ -54,10 +53,10 @@ part-meet-row-end c = omega (arith, inside c)
 meet-row-requires : tie.Need-meet-row-requires Inv-loop μ-loop
 meet-row-requires c κs =
     let start = c .before .before .before .before .before .before .before .before .before .before in
-    let at = c .before .before .before .before .loop in
+    let at = c .before .before .before .loop in
     let args = start .args in
-    let long = lent-long (args .w) (at .k) 32 (args .reaching .now) (omega arith) (start .pre .1) in
-    (lent-width (args .w) (at .k) 32 (args .reaching .now) (omega arith) (start .pre .1) (start .pre .0), start .pre .3 ∙ ap (λ (n : ℕ). 32 * n) (sym long), start .pre .4, start .pre .5, at .inv .1, at .inv .3)
+    let long = lent-long (args .w) (at .k) 32 (args .reaching .now) (omega arith) (start .pre .0) in
+    (rw long (start .pre .4), start .pre .2 ∙ ap (λ (n : ℕ). 32 * n) (sym long), start .pre .3, at .inv .1)
 
 add-k : tie.Need-add-k Inv-loop μ-loop
 add-k c = search needs
@@ -67,14 +66,16 @@ loop-less c = search needs
 
 loop-again : tie.Need-loop-again Inv-loop μ-loop
 loop-again c =
-    let at = c .before .before .before .before .before .before .before .loop in
+    let at = c .before .before .before .before .before .before .loop in
     let start = c .before .before .before .before .before .before .before .before .before .before .before .before .before in
     let args = start .args in
-    let met = c .before .before .meet-row .ensures in (
+    let w = args .w in
+    let row = take (w * at .k + w - w * at .k) (drop (w * at .k) (args .reaching .now)) in
+    let long = lent-long w (at .k) 32 (args .reaching .now) (omega arith) (start .pre .0) in
+    let met = as-wide (length row) w (args .tasks) (args .lived) row (args .live .now) (args .ends .now) (args .counts .now) (at .numbers) (c .before .before .meet-row .last .1 .1 .1 .1 .1 .1 .1 .0) long (c .before .before .meet-row .ensures) in (
       omega arith,
       search needs,
-      met-block (args .used .now) (args .counts .now) (args .tasks) (args .w) (at .k) (args .reaching .now) (args .lived) (args .live .now) (omega arith) (start .pre .1) (at .inv .2) (met .0),
-      met .1,
+      met-block w (args .ends .now) (args .counts .now) (args .tasks) (at .k) (args .reaching .now) (rowsOf w (args .lived) (args .live .now)) (at .inv .2) met,
     )
 
 same-length : tie.Need-same-length Inv-loop μ-loop
@@ -83,9 +84,8 @@ same-length c = search needs
 returns : tie.Need-returns Inv-loop μ-loop
 returns c =
     let at = c .before .loop in
-    let args = c .before .before .before .before .before .before .before .args in
-    let end : at .k ≡ args .reached = omega arith in
-    (rw end at (at .inv .2), at .inv .3)
+    let end : at .k ≡ c .before .before .before .before .before .before .before .before .args .reached = omega arith in
+    rw (← end) (at .inv .2)
 
 pub meet-block-spec : {M : Type 1} → statement M
 meet-block-spec =

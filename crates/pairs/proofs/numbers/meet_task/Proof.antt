@@ -1,5 +1,5 @@
--- `numbers::meet_task` meets its contract: after b turns the useful sets of the unmasked ones among the first b blocks are met. Assumes nothing.
-use mathlib.Core.Path.{_≡_, _∙_}
+-- `numbers::meet_task` meets its contract: after b turns the rows of the unmasked ones among the first b blocks are met. Assumes nothing.
+use mathlib.Core.Path.{_≡_, refl, _∙_}
 use mathlib.Core.Logic.{inl, inr}
 use Prim.Native.Nat.{_+_, _*_, _-_, _≤_}
 use native.Mathlib.Omega.{arith}
@@ -8,35 +8,36 @@ use lib.ListN.{length}
 use Rattle.cache.proofs.Members.{in-word, out-word}
 use Rattle.rows.proofs.Parts.{row-within}
 use Rattle.gather.specs.Memory.{heldRows}
-use Rattle.pairs.specs.Pairs.{within, taskUseful, Met, Absorbed}
-use Rattle.pairs.proofs.UsedSets.{lent-long}
-use Rattle.pairs.proofs.Meeting.{held-at, met-none, met-within, met-outside, absorbed-none}
+use Rattle.pairs.specs.Pairs.{within, taskMost, Met}
+use Rattle.pairs.proofs.ReplacedSets.{lent-long}
+use Rattle.pairs.proofs.Meeting.{held-at, met-none, met-within, met-outside}
 use Rattle.pairs.proofs.numbers.meet_task.Statement.{statement}
 use Rattle.pairs.proofs.numbers.meet_task.Tie as tie
 
 abbrev Inv-loop : tie.InvT-loop
-Inv-loop w blocks unmasked reaching reached live lived used counts tasks numbers₀ met₀ part b₀ numbers met b =
+Inv-loop w blocks unmasked reaching reached live lived ends counts unions tasks numbers₀ part b₀ numbers b =
     (b ≤ blocks) × (length numbers ≡ 8)
-    × Met (taskUseful (within unmasked (heldRows w reaching reached)) (heldRows w live lived) b 0) used counts tasks numbers₀ numbers × Absorbed met used counts tasks numbers
+    × Met (taskMost (within unmasked (heldRows w reaching reached)) (heldRows w live lived) b 0) w ends counts tasks numbers₀ numbers
 
 abbrev μ-loop : tie.MeasureT-loop
-μ-loop w blocks unmasked reaching reached live lived used counts tasks numbers₀ met₀ part b₀ numbers met b = blocks - b
+μ-loop w blocks unmasked reaching reached live lived ends counts unions tasks numbers₀ part b₀ numbers b = blocks - b
 
 -- where the rows of block b end
-inside : (c : tie.In-loop Inv-loop μ-loop) → let w = c .before .before .before .before .before .before .before .before .before .args .w in
+inside : (c : tie.In-loop Inv-loop μ-loop) → let w = c .before .before .before .before .before .before .before .before .before .before .args .w in
     (32 * w * c .before .loop .b + 32 * w ≤ 24 * (32 * w)) × (w ≤ 32)
 inside c =
-    let start = c .before .before .before .before .before .before .before .before .before in
+    let start = c .before .before .before .before .before .before .before .before .before .before in
     (omega (arith, row-within (32 * start .args .w) (c .before .loop .b) 24 (omega arith)), start .pre .1 .width .narrow)
 
 mul-part : tie.Need-mul-part Inv-loop μ-loop
-mul-part c = omega (arith, c .before .before .before .before .before .before .before .pre .1 .width .narrow)
+mul-part c = omega (arith, c .before .before .before .before .before .before .before .before .pre .1 .width .narrow)
 
 loop-holds : tie.Need-loop-holds Inv-loop μ-loop
 loop-holds c =
-    let start = c .before .before .before .before .before .before .before in
+    let start = c .before .before .before .before .before .before .before .before in
     let args = start .args in
-    (omega arith, start .pre .4, met-none (args .used .now) (args .counts .now) (args .tasks) (args .numbers .now), absorbed-none (args .used .now) (args .counts .now) (args .tasks) (args .numbers .now))
+    let none = taskMost (within (args .unmasked) (heldRows (args .w) (args .reaching .now) (args .reached .now))) (heldRows (args .w) (args .live .now) (args .lived .now)) 0 0 in
+    (omega arith, start .pre .4, met-none (args .w) (args .ends .now) (args .counts .now) none (args .tasks) (args .numbers .now) (λ fs. refl))
 
 cast-if1 : tie.Need-cast-if1 Inv-loop μ-loop
 cast-if1 c = search needs
@@ -60,7 +61,7 @@ part-meet-block-start : tie.Need-part-meet-block-start Inv-loop μ-loop
 part-meet-block-start c = search needs
 
 part-meet-block-end : tie.Need-part-meet-block-end Inv-loop μ-loop
-part-meet-block-end c = omega (arith, inside (c .before), c .before .before .before .before .before .before .before .before .before .before .pre .1 .long)
+part-meet-block-end c = omega (arith, inside (c .before), c .before .before .before .before .before .before .before .before .before .before .before .pre .1 .long)
 
 mul-meet-block-2 : tie.Need-mul-meet-block-2 Inv-loop μ-loop
 mul-meet-block-2 c = search needs
@@ -81,7 +82,7 @@ part-meet-block-start-2 : tie.Need-part-meet-block-start-2 Inv-loop μ-loop
 part-meet-block-start-2 c = search needs
 
 part-meet-block-end-2 : tie.Need-part-meet-block-end-2 Inv-loop μ-loop
-part-meet-block-end-2 c = omega (arith, inside (c .before .before .before), c .before .before .before .before .before .before .before .before .before .before .before .before .pre .2 .long)
+part-meet-block-end-2 c = omega (arith, inside (c .before .before .before), c .before .before .before .before .before .before .before .before .before .before .before .before .before .pre .2 .long)
 
 mul-meet-block-4 : tie.Need-mul-meet-block-4 Inv-loop μ-loop
 mul-meet-block-4 c = search needs
@@ -92,16 +93,14 @@ shared-slice-read-meet-block-2 c = search needs
 meet-block-requires : tie.Need-meet-block-requires Inv-loop μ-loop
 meet-block-requires c κs =
     let start = c .before .before .before .before .before .before .before .before .before .before .before .before .before .before .before .before in
-    let at = c .before .before .before .before .before .before .before .before .loop in
+    let at = c .before .before .before .before .before .before .before .loop in
     let args = start .args in (
-      start .pre .1 .width,
       lent-long (32 * args .w) (at .b) 24 (args .reaching .now) (omega arith) (start .pre .1 .long),
       start .pre .1 .few (at .b) (omega arith),
       lent-long (32 * args .w) (at .b) 24 (args .live .now) (omega arith) (start .pre .2 .long),
       start .pre .2 .few (at .b) (omega arith),
       start .pre .3,
       at .inv .1,
-      at .inv .3,
     )
 
 add-b : tie.Need-add-b Inv-loop μ-loop
@@ -112,25 +111,20 @@ loop-less c = search needs
 
 loop-again : tie.Need-loop-again Inv-loop μ-loop
 loop-again c =
-    let start = c .before .before .before .before .before .before .before .before .before .before in
+    let start = c .before .before .before .before .before .before .before .before .before .before .before in
     let at = c .before .before .loop in
     let args = start .args in
     let rs = heldRows (args .w) (args .reaching .now) (args .reached .now) in
     let ls = heldRows (args .w) (args .live .now) (args .lived .now) in
-    let next : Met (taskUseful (within (args .unmasked) rs) ls (at .b + 1) 0) (args .used .now) (args .counts .now) (args .tasks) (args .numbers .now) (c .if1 .numbers)
-    × Absorbed (c .if1 .met) (args .used .now) (args .counts .now) (args .tasks) (c .if1 .numbers)
+    let next : Met (taskMost (within (args .unmasked) rs) ls (at .b + 1) 0) (args .w) (args .ends .now) (args .counts .now) (args .tasks) (args .numbers .now) (c .if1 .numbers)
     = elim (c .if1 .came) [
-      | inl w ↦ rw (w .10, w .11) (
-        met-within (args .used .now) (args .counts .now) (args .tasks) (at .b) (args .unmasked) rs ls (in-word 32 (args .unmasked) (at .b) (omega arith) (w .0 .taken))
-            (held-at (args .w) (args .reaching .now) (args .reached .now) (at .b)) (held-at (args .w) (args .live .now) (args .lived .now) (at .b)) (at .inv .2) (w .7 .ensures .0),
-        w .7 .ensures .1,
-      )
-      | inr w ↦ rw (w .1, w .2) (
-        met-outside (args .used .now) (args .counts .now) (args .tasks) (at .b) (args .unmasked) rs ls (out-word 32 (args .unmasked) (at .b) (omega arith) (w .0 .left)) (at .inv .2),
-        at .inv .3,
-      )
+      | inl v ↦ rw (v .9)
+          (met-within (args .w) (args .ends .now) (args .counts .now) (args .tasks) (at .b) (args .unmasked) rs ls (in-word 32 (args .unmasked) (at .b) (omega arith) (v .0 .taken))
+          (held-at (args .w) (args .reaching .now) (args .reached .now) (at .b)) (held-at (args .w) (args .live .now) (args .lived .now) (at .b)) (at .inv .2) (v .6 .ensures))
+      | inr v ↦ rw (v .1)
+          (met-outside (args .w) (args .ends .now) (args .counts .now) (args .tasks) (at .b) (args .unmasked) rs ls (out-word 32 (args .unmasked) (at .b) (omega arith) (v .0 .left)) (at .inv .2))
     ] in
-    (omega arith, next .0 .long ∙ start .pre .4, next .0, next .1)
+    (omega arith, next .long ∙ start .pre .4, next)
 
 same-length : tie.Need-same-length Inv-loop μ-loop
 same-length c = search needs
@@ -138,8 +132,8 @@ same-length c = search needs
 returns : tie.Need-returns Inv-loop μ-loop
 returns c =
     let at = c .before .loop in
-    let end : at .b ≡ c .before .before .before .before .before .before .before .before .before .args .blocks = omega arith in
-    rw end at (at .inv .2)
+    let end : at .b ≡ c .before .before .before .before .before .before .before .before .before .before .args .blocks = omega arith in
+    rw (← end) (at .inv .2)
 
 pub meet-task-spec : {M : Type 1} → statement M
 meet-task-spec =

@@ -1,7 +1,7 @@
 -- `numbers::most_common` meets its contract: the most so far and what is left give the most. Assumes nothing.
 use mathlib.Core.Path.{_≡_, _∙_}
 use mathlib.Core.Logic.{inl, inr}
-use Prim.Native.Nat.{ℕ, _-_, _≤_, max}
+use Prim.Native.Nat.{_-_, _≤_, max}
 use native.Mathlib.Omega.{arith}
 use borrow.Author.Needs.{needs}
 use lib.ListN.{length, drop}
@@ -11,10 +11,10 @@ use Rattle.pairs.proofs.numbers.most_common.Statement.{statement}
 use Rattle.pairs.proofs.numbers.most_common.Tie as tie
 
 abbrev Inv-loop : tie.InvT-loop
-Inv-loop set used most₀ k₀ k-end most k = (k ≤ length used) × (max most (mostCommon set (drop k used)) ≡ mostCommon set used)
+Inv-loop set sets most₀ k₀ k-end most k = (k ≤ length sets) × (max most (mostCommon set (drop k sets)) ≡ mostCommon set sets)
 
 abbrev μ-loop : tie.MeasureT-loop
-μ-loop set used most₀ k₀ k-end most k = length used - k
+μ-loop set sets most₀ k₀ k-end most k = length sets - k
 
 loop-holds : tie.Need-loop-holds Inv-loop μ-loop
 loop-holds c = (omega arith, omega arith)
@@ -39,13 +39,13 @@ loop-again c =
     let at = c .before .before .before .before .loop in
     let args = c .before .before .before .before .before .before .args in
     let larger : c .if1 .most ≡ max (at .most) (c .before .common .result) = elim (c .if1 .came) [ inl w ↦ w .1 ∙ omega arith | inr w ↦ w .1 ∙ omega arith ] in
-    (omega arith, most-turn (args .set) (args .used .now) (at .k) (at .most) (omega arith) (c .before .common .ensures) larger (at .inv .1))
+    (omega arith, most-turn (args .set) (args .sets .now) (at .k) (at .most) (omega arith) (c .before .common .ensures) larger (at .inv .1))
 
 returns : tie.Need-returns Inv-loop μ-loop
 returns c =
     let at = c .before .loop in
     let args = c .before .before .before .args in
-    most-end (args .set) (args .used .now) (at .k) (at .most) (omega arith) (at .inv .1)
+    most-end (args .set) (args .sets .now) (at .k) (at .most) (omega arith) (at .inv .1)
 
 pub most-common-spec : {M : Type 1} → statement M
 most-common-spec =

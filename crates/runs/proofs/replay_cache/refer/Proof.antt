@@ -1,17 +1,19 @@
 -- `replay_cache::refer` meets its contract: a walk of its MIR, by hand. The borrow is opened, the row is lent to `referred` for a lifetime that is
--- made for the call, and when it is back the count is stored; nothing of the cache is copied. Assumes nothing.
-use mathlib.Core.Path.{ap₂}
-use mathlib.Core.List.{map, map-id}
-use Rattle.runs.proofs.Walking.{_≡_, refl, sym, ap, subst, _∙_, ℕ, _+_, _<_, _^_, [], _∷_, List, Holds, URA, fullShare, named, w32, tyInt, Val, vunit, vint, vptr, vstruct, ofList, hasTy, WT, SProp, ent}
-use Rattle.runs.proofs.Walking.{sep, ex, guard, all, wand, allE, apply∗, id⊢, GName, Lft, Share, ftrue, fat, flft, fobs, fbor, fres, flent, Memory, Routine, Heap, WpFn, Tables}
+-- made for the call, and when it is back the count is stored; nothing of the cache is copied. It hits where the count stays. Assumes nothing.
+use mathlib.Core.Bool.{Bool}
+use mathlib.Core.List.{map-id}
+use Rattle.runs.proofs.Walking.{_≡_, refl, sym, ap, subst, _∙_, ℕ, _+_, _<_, _^_, [], _∷_, List, Holds, URA, fullShare, named, w32, tyInt, Val, vint, vbool, vptr, vstruct, ofList, hasTy, WT, SProp, ent}
+use Rattle.runs.proofs.Walking.{sep, ex, guard, all, allE, apply∗, id⊢, GName, Lft, Share, ftrue, fat, flft, fobs, fbor, fres, flent, Memory, Routine, Heap, WpFn, Tables}
 use Rattle.runs.proofs.Walking.{Atoms, sem, Fun, fact, givenOf, tables, tablesOf, Given, ‵, raw, given, _⊛_, some, later, _$_, _∵_, !, qed, by, move, keep, drop, use1, use2, use3}
-use Rattle.runs.proofs.Walking.{split, join, pick, learn, fsplit, fsplit3, fjoin, fjoin3, feqI, suffices, frame, await, updating, at-once, show, check, done, look, init, forget}
-use Rattle.runs.proofs.Walking.{stop, hop, fld, from, load, addr, unit-lit, of-opd, assigns, and-then, no-more, land, returns, enter, alloc1, alloc0, params1, pass1, pass0, free1, free0}
-use Rattle.runs.proofs.Walking.{whole, sub, look-in, store-in, lft-new, lft-end, Body, fmOf, WpFn-mono, owns, Is, shows, mem, uint-makes, u32, RefT, MutRef, ptr-vals, mut-tells}
+use Rattle.runs.proofs.Walking.{split, join, pick, learn, rewrite, fsplit, fsplit3, fjoin, fjoin3, feqI, suffices, frame, await, updating, at-once, show, check, done, look, init, forget}
+use Rattle.runs.proofs.Walking.{stop, hop, fld, from, load, addr, bin, of-opd, assigns, and-then, no-more, land, returns, enter, alloc1, alloc0, params1, pass1, pass0, free1, free0}
+use Rattle.runs.proofs.Walking.{whole, sub, look-in, store-in, lft-new, lft-end, Body, fmOf, WpFn-mono, owns, Is, shows, mem, Boolean, bool-makes, uint-makes, u32, RefT, MutRef, ptr-vals, mut-tells}
 use Rattle.runs.proofs.Walking.{plain, opens, closes, owned, facts, heard, nothing, only, spelt, Contract, Triple, calls-at, onEntry, Meets, tripleOf, entered, cited, says, needs}
 use Rattle.runs.proofs.Walking.{Stays, stay-ref, stay-none, walkOf, AllGo, goes-none, goes-ref, Walks, ends-at, walked, walk-meets, yes, ensured, lasts}
+use lib.Dec.{eqb}
 use lib.ListN.{length}
 use denote.Struct.Laws as LL
+use Rattle.cache.specs.Cache.{hits}
 use Rattle.cache.specs.Shape.{shaped}
 use Rattle.cache.specs.Shape.{Holds as ShapeHolds}
 use Rattle.cache.specs.declared.blocks.CacheShape.{CacheShape}
@@ -20,11 +22,12 @@ use Rattle.cache.proofs.blocks.CacheShape.Laws as S′
 use Rattle.cache.specs.declared.blocks.MemoryBlock.{MemoryBlock}
 use Rattle.cache.proofs.blocks.MemoryBlock as B
 use Rattle.cache.proofs.blocks.MemoryBlock.Laws as B′
-use Rattle.runs.specs.Running.{rowCount, held, withOwn}
+use Rattle.runs.specs.Running.{rowCount, withOwn}
 use Rattle.runs.specs.declared.replay_cache.ReplayCache.{ReplayCache}
 use Rattle.runs.proofs.replay_cache.ReplayCache as T
 use Rattle.runs.proofs.replay_cache.ReplayCache.Laws as T′
-use Rattle.runs.proofs.LentCache.{shapeVal, ShapeIs, shape-typed, R, mach, at-cell, After}
+use Rattle.runs.proofs.CacheLaws.{hit-by-count}
+use Rattle.runs.proofs.LentCache.{shapeVal, ShapeIs, shape-typed, R, mach, at-cell, After, Hit}
 use Rattle.runs.proofs.LentRow.{Q, rowVal, RowIs, rowTy, cacheTy, rowOf, row-is, withRowVal, at-row, Way, row-out, lends-row, row-back}
 use Rattle.runs.proofs.replay_cache.referred as core
 use Rattle.runs.proofs.replay_cache.referred.Symbol as core-def
@@ -57,15 +60,15 @@ module _ {M : Type 1} (𝓤 : URA M) (H : Heap 𝓤) (A : Atoms 𝓤) (W : Given
   abbrev Post : Val → SProp 𝓤
   Post = walkOf 𝓤 H A own.ended stayed (own.clauses 𝓤 H A at-mem run) .post (((κ, tt), (q, tt), tt, x, at), tt)
 
-  exits : (r : ReplayCache) → After h m shape r → ent 𝓤 (sep 𝓤 (A .obs γ (R .coded .code r)) (sep 𝓤 (A .bor κ (Body (mem R) b o γ)) (A .lft κ q))) (Post vunit)
-  exits r e =
+  exits : (r : ReplayCache) (y : Bool) → After h m shape r → y ≡ Hit h m shape → ent 𝓤 (sep 𝓤 (A .obs γ (R .coded .code r)) (sep 𝓤 (A .bor κ (Body (mem R) b o γ)) (A .lft κ q))) (Post (vbool y))
+  exits r y e hit =
       qed W (‵ (fobs γ (R .coded .code r)) ∷ ‵ (fbor κ (Body (mem R) b o γ)) ∷ ‵ (flft κ q) ∷ []) ∵
-      suffices ! _ (ends-at 𝓤 H A own.ended stayed (own.clauses 𝓤 H A at-mem run) W (((κ, tt), (q, tt), tt, x, at), tt) vunit tt (r, (tt, (tt, tt))) (tt, (tt, (tt, tt)))) $
-      says ! e $ nothing ! $ move ! (3 ∷ 0 ∷ []) $ join ! $
+      suffices ! _ (ends-at 𝓤 H A own.ended stayed (own.clauses 𝓤 H A at-mem run) W (((κ, tt), (q, tt), tt, x, at), tt) (vbool y) y (r, (tt, (tt, tt))) (tt, (tt, (tt, tt)))) $
+      says ! (e, hit) $ nothing ! $ move ! (3 ∷ 0 ∷ []) $ join ! $
       frame ! $ feqI ! (List Val) (vptr b o ∷ []) (vptr b o ∷ []) refl $ fjoin3 ! $
       nothing ! $ owned ! S.the-row (Is S.the-row) (LL.makes S.the-type S′.the-plain 𝓤 H A) shape _ shape-is $ fjoin ! $
       owned ! B.the-row (Is B.the-row) (LL.makes B.the-type B′.the-plain 𝓤 H A) m _ m-is $ fjoin ! $ move ! (1 ∷ 0 ∷ []) $ fjoin ! $
-      feqI ! (List Val) (vunit ∷ []) (vunit ∷ []) refl $ move ! (1 ∷ 0 ∷ []) $ done !
+      owned ! Boolean (Is Boolean) (bool-makes 𝓤 H A W) y (vbool y ∷ []) refl $ move ! (1 ∷ 0 ∷ []) $ done !
 
   -- ---- the call of `referred`: the row, lent for the lifetime ν under the name δ
   abbrev args : GName → RefT (List ℕ) × (ℕ × (MemoryBlock × (CacheShape × Unit {0})))
@@ -111,13 +114,20 @@ module _ {M : Type 1} (𝓤 : URA M) (H : Heap 𝓤) (A : Atoms 𝓤) (W : Given
   count-typed : (y : ℕ) (z : Val) → Is u32 y (z ∷ []) → Holds (hasTy (tyInt w32) z) × WT z
   count-typed y z is = subst (λ (v : Val). Holds (hasTy (tyInt w32) v) × WT v) (sym (ap only (is .0))) (tt, record { fits = is .1 })
 
-  abbrev newVal : List ℕ → Val → Val
-  newVal ys z = vstruct (ofList (rowVal ys ∷ z ∷ []))
+  abbrev newVal : List ℕ → ℕ → Val
+  newVal ys y = vstruct (ofList (rowVal ys ∷ vint w32 y ∷ []))
 
-  new-is : (ys : List ℕ) (y : ℕ) (z : Val) → RowIs ys → Is u32 y (z ∷ []) → Is R (new ys y) (newVal ys z ∷ [])
-  new-is ys y z good is =
-      subst (λ (v : Val). Is R (new ys y) (v ∷ [])) (ap₂ newVal (map-id ys) (sym (ap only (is .0))))
-      (LL.owes T.the-type T′.the-laws (new ys y) (subst RowIs (sym (map-id ys)) good, ((refl, is .1), tt)))
+  new-is : (ys : List ℕ) (y : ℕ) → RowIs ys → y < 2 ^ 32 → Is R (new ys y) (newVal ys y ∷ [])
+  new-is ys y good fits =
+      subst (λ (v : Val). Is R (new ys y) (v ∷ [])) (ap (λ (l : List ℕ). newVal l y) (map-id ys))
+      (LL.owes T.the-type T′.the-laws (new ys y) (subst RowIs (sym (map-id ys)) good, ((refl, fits), tt)))
+
+  -- the row as its type has it, and as it is
+  after-is : (ys : List ℕ) (y : ℕ) → AfterRow ys y → After h m shape (new ys y)
+  after-is ys y e = e ∙ ap (λ (row : List ℕ). withOwn (shaped 32 shape) (rowCount row (h .misses)) (m .0)) (map-id (h .cells))
+
+  hit-is : (ys : List ℕ) (y : ℕ) → AfterRow ys y → eqb y (h .misses) ≡ Hit h m shape
+  hit-is ys y e = hit-by-count (shaped 32 shape) (m .0) (h .misses) (rowOf h) e ∙ ap (λ (row : List ℕ). hits (shaped 32 shape) row (m .0)) (map-id (h .cells))
 
   walk : (𝓣 : Tables 𝓤 H) → Triple 𝓤 (𝓣 .C #runs·replay-cache·referred) (Core 𝓤 H A at-mem run)
       → ent 𝓤 (onEntry 𝓤 H A own.signature (κ, tt) (q, tt) x at) (WpFn 𝓤 H (𝓣 .C) (𝓣 .Λ) code.function (vptr b o ∷ block ∷ shapeVal shape ∷ []) Post)
@@ -133,8 +143,8 @@ module _ {M : Type 1} (𝓤 : URA M) (H : Heap 𝓤) (A : Atoms 𝓤) (W : Given
       opens ! tt R {h = h} b o (λ vs. spelt ! R (Is R) (shows 𝓤 H A R) (LL.vals T.the-type T′.the-laws) (LL.tells T.the-type T′.the-laws) fullShare h vs b o $
       move ! (1 ∷ []) $ facts ! R (Is R) (shows 𝓤 H A R) h (mach h ∷ []) (λ g.
       -- [the cell; the open borrow; obs; auth; _6; …; _5; …; _4; …; _3; …; _2; …; _1; …; room for _0; …]
-      assigns ! (addr ! (from ! (hop ! (look ! 14 refl) (fld ! refl (stop !))))) (from ! (stop !)) (init ! 6 refl (tt, tt)) $
-      assigns ! (of-opd ! (load ! (from ! (hop ! (look ! 14 refl) (fld ! refl (stop !)))) (look-in ! 0 (sub ! 1 refl (whole !))))) (from ! (stop !)) (init ! 4 refl (tt, record { fits = row-is h g .1 .1 })) $
+      assigns ! (of-opd ! (load ! (from ! (hop ! (look ! 14 refl) (fld ! refl (stop !)))) (look-in ! 0 (sub ! 1 refl (whole !))))) (from ! (stop !)) (init ! 8 refl (tt, record { fits = row-is h g .1 .1 })) $
+      assigns ! (addr ! (from ! (hop ! (look ! 14 refl) (fld ! refl (stop !))))) (from ! (stop !)) (init ! 4 refl (tt, tt)) $
       -- the row is taken out, and lent for a lifetime ν of the call
       use1 W (‵ (fat fullShare rowTy b (o + 0) (rowVal (rowOf h))) ⊛ raw (all 𝓤 (Way 𝓤 H A W h b o))) (row-out 𝓤 H A W h b o) $ split ! $
       lft-new ! tt (λ ν. move ! (1 ∷ []) $
@@ -144,27 +154,27 @@ module _ {M : Type 1} (𝓤 : URA M) (H : Heap 𝓤) (A : Atoms 𝓤) (W : Given
       -- [the reference; the lender's part; ν's token; the way back; the open borrow; obs; auth; _6; …]
       move ! (2 ∷ 0 ∷ []) $ use2 W (raw (Core 𝓤 H A at-mem run .pre (to ν δ))) (goes (row-is h g .1 .1) (row-is h g .0 .1 .0 .1) ν δ) $
       calls-at ! (fmOf 𝓤 H (W .laws) 𝓣) (Core 𝓤 H A at-mem run) known (to ν δ)
-      (and-then ! (load ! (from ! (stop !)) (look ! 8 refl)) (and-then ! (load ! (from ! (stop !)) (look ! 6 refl))
+      (and-then ! (load ! (from ! (stop !)) (look ! 6 refl)) (and-then ! (load ! (from ! (stop !)) (look ! 10 refl))
       (and-then ! (load ! (from ! (stop !)) (look ! 14 refl)) (and-then ! (load ! (from ! (stop !)) (look ! 12 refl)) (no-more !))))) (λ z.
       use1 W (later (some (λ (w : List ℕ × ℕ). given (Is u32 (w .1) (z ∷ []) × AfterRow (w .0) (w .1)) (‵ (flft (ν ∷ []) fullShare) ⊛ ‵ (fres δ (Q .coded .code (w .0)))))))
       (gives (row-is h g .1 .1) (row-is h g .0 .1 .0 .1) ν δ z) $
       await ! tt $ pick ! (λ w. learn ! (λ e. split ! $
       -- [ν's token; the last row; the lender's part; the way back; the open borrow; obs; auth; _6; …]
-      land ! (from ! (stop !)) (init ! 11 refl (count-typed (w .1) z (e .0))) $
+      land ! (from ! (stop !)) (init ! 9 refl (count-typed (w .1) z (e .0))) $ rewrite ! 9 (λ (v : Val). ‵ (fat fullShare (tyInt w32) l₅ 0 v)) (ap only (e .0 .0)) refl $
       lft-end ! tt $ move ! (0 ∷ 2 ∷ 1 ∷ []) $
       use3 W (later (given (RowIs (w .0)) (‵ (fat fullShare rowTy b (o + 0) (rowVal (w .0)))))) (row-back 𝓤 H A W (ν ∷ []) b (o + 0) δ (w .0)) $ await ! tt $ learn ! (λ good.
       -- [the row; the way back; the open borrow; obs; auth; _6; …]
       move ! (1 ∷ []) $ use1 W (raw (Way 𝓤 H A W h b o (rowVal (w .0)))) (allE 𝓤 (Way 𝓤 H A W h b o) (rowVal (w .0))) $ move ! (1 ∷ 0 ∷ []) $
       use2 W (‵ (fat fullShare cacheTy b o (withRowVal h (rowVal (w .0))))) (apply∗ 𝓤 (H .at fullShare rowTy b (o + 0) (rowVal (w .0))) (H .at fullShare cacheTy b o (withRowVal h (rowVal (w .0))))) $
       -- [the cell; the open borrow; obs; auth; _6; …]
-      assigns ! (of-opd ! (load ! (from ! (stop !)) (look ! 8 refl))) (from ! (hop ! (look ! 14 refl) (fld ! refl (stop !)))) (store-in ! 0 (sub ! 1 refl (whole !)) (count-typed (w .1) z (e .0))) $
-      assigns ! (of-opd ! (unit-lit !)) (from ! (stop !)) (init ! 16 refl (tt, tt)) $
-      owned ! R (Is R) (LL.makes T.the-type T′.the-plain 𝓤 H A) (new (w .0) (w .1)) (newVal (w .0) z ∷ []) (new-is (w .0) (w .1) z good (e .0)) $
-      move ! (1 ∷ 0 ∷ []) $ closes ! tt R (new (w .0) (w .1)) (newVal (w .0) z ∷ []) b o $
+      assigns ! (of-opd ! (load ! (from ! (stop !)) (look ! 6 refl))) (from ! (hop ! (look ! 14 refl) (fld ! refl (stop !)))) (store-in ! 0 (sub ! 1 refl (whole !)) (tt, record { fits = e .0 .1 })) $
+      assigns ! (bin ! (load ! (from ! (stop !)) (look ! 6 refl)) (load ! (from ! (stop !)) (look ! 8 refl)) tt) (from ! (stop !)) (init ! 16 refl (tt, tt)) $
+      owned ! R (Is R) (LL.makes T.the-type T′.the-plain 𝓤 H A) (new (w .0) (w .1)) (newVal (w .0) (w .1) ∷ []) (new-is (w .0) (w .1) good (e .0 .1)) $
+      move ! (1 ∷ 0 ∷ []) $ closes ! tt R (new (w .0) (w .1)) (newVal (w .0) (w .1) ∷ []) b o $
       returns ! (look ! 15 refl) $ forget ! 3 refl $ forget ! 5 refl $ forget ! 7 refl $ forget ! 9 refl $ forget ! 11 refl $ forget ! 13 refl $ forget ! 15 refl $
       move ! (15 ∷ 16 ∷ []) $ free1 ! $ move ! (13 ∷ 14 ∷ []) $ free1 ! $ move ! (11 ∷ 12 ∷ []) $ free1 ! $ move ! (9 ∷ 10 ∷ []) $ free1 ! $ move ! (7 ∷ 8 ∷ []) $ free1 ! $
       move ! (5 ∷ 6 ∷ []) $ free1 ! $ move ! (3 ∷ 4 ∷ []) $ free1 ! $ free0 ! $
-      keep ! (0 ∷ 1 ∷ 2 ∷ []) $ by ! (exits (new (w .0) (w .1)) (e .1 ∙ ap (λ (row : List ℕ). withOwn (shaped 32 shape) (rowCount row (h .misses)) (m .0)) (map-id (h .cells)))))))))))))))))))
+      keep ! (0 ∷ 1 ∷ 2 ∷ []) $ by ! (exits (new (w .0) (w .1)) (eqb (w .1) (h .misses)) (after-is (w .0) (w .1) (e .1)) (hit-is (w .0) (w .1) (e .1))))))))))))))))))
 
 module _ {M : Type 1} (𝓤 : URA M) (H : Heap 𝓤) (A : Atoms 𝓤) (W : Given 𝓤 H A) (at-mem : Memory → SProp 𝓤) (run : Routine → Fun 𝓤) (𝓣 : Tables 𝓤 H)
     (known : Triple 𝓤 (𝓣 .C #runs·replay-cache·referred) (Core 𝓤 H A at-mem run)) where

@@ -1,19 +1,18 @@
 -- `replay_cache::refer_all` meets its contract: a walk of its MIR, by hand, with a loop. In each turn the next reference is read by `reference_at`,
 -- and the cache is lent again to `refer` for a lifetime that is made for the call, and comes back.
 -- The invariant: what is left of the references, made from here, gives what all of them give from the start. Assumes nothing.
-use Rattle.runs.proofs.Walking.{tyAt, second, _≡_, refl, sym, ap, subst, _∙_, ℕ, _+_, _-_, _*_, _/_, _≤_, _<_, _^_, arith, add-one-dec, WellFounded, InvImage·wf, []}
-use Rattle.runs.proofs.Walking.{_∷_, List, Nat·lt-wfRel, Holds, ltb→lt, nltb→le, lit<, URA, fullShare, Ty, Code, named, w8, w64, tyUnit, Val, vunit, vint, vptr, hasTy}
-use Rattle.runs.proofs.Walking.{WT, SProp, ent, sep, ex, guard, exE, snd∗, id⊢, Lft, Share, GName, Fml, ftrue, fat, froom, fdies, flft, fres, Memory, Routine, Heap}
-use Rattle.runs.proofs.Walking.{Out, Env, Calls, Loops, Wp, WpFn, Tables, afterSeq, afterBlock, afterTurn, atReturn, Atoms, sem, Fun, fact, givenOf, tables, tablesOf}
-use Rattle.runs.proofs.Walking.{Given, Item, ‵, raw, given, _⊛_, ⋆, some, later, runs, anyQ, atRet, Sq, _$_, _∵_, !, qed, by, move, keep, drop, use1, use2, use3, split}
-use Rattle.runs.proofs.Walking.{join, pick, learn, fsplit, fjoin, feqI, feqL, suffices, frame, await, updating, at-once, show, check, done, look, init, store, forget}
-use Rattle.runs.proofs.Walking.{stop, hop, fld, from, load, lit, addr, unit-lit, of-opd, bin, assigns, assigns-last, and-then, no-more, land, first, skips, jumps}
-use Rattle.runs.proofs.Walking.{blocks, branches, returns, enter, alloc1, alloc0, params1, pass1, pass0, free1, free0, exec, Below, again, loops, whole, sub, look-in}
-use Rattle.runs.proofs.Walking.{lft-new, lft-end, FmC, fmOf, WpFn-mono, owns, Is, shows, Nothing, uint-vals, uint-tells, uint-makes, u8, usize, RefT, MutRef, ptr-vals}
-use Rattle.runs.proofs.Walking.{mut-tells, sliceVal, ShrSlice, slice-vals, shr-slice-tells, shr-slice-lawful, shr-slice-copy, LentAgain, lends-again, comes-back, plain}
-use Rattle.runs.proofs.Walking.{only, owned, facts, heard, nothing, Contract, Triple, calls-at, onEntry, Meets, tripleOf, entered, cited, says, needs, Stays, stay-ref}
-use Rattle.runs.proofs.Walking.{stay-none, stay-none-slice, walkOf, AllGo, goes-ref, goes-none, goes-none-slice, Walks, ends-at, walked, walk-meets, ensured, lasts}
-use Rattle.runs.proofs.Walking.{yes}
+use Rattle.runs.proofs.Walking.{ℕ, _+_, _≤_, _<_, _^_, _-_, _*_, _/_, List, [], _∷_, _≡_, refl, _∙_, arith, add-one-dec, WellFounded, InvImage·wf, URA}
+use Rattle.runs.proofs.Walking.{fullShare, named, Ty, Code, w64, Val, vptr, vunit, vint, vbool, ent, SProp, id⊢, Lft, GName, Fml, fat, fres, ftrue, flft, Share}
+use Rattle.runs.proofs.Walking.{froom, fdies, Heap, Calls, Loops, WpFn, Tables, Out, Env, Wp, afterSeq, afterBlock, atReturn, Atoms, Given, ‵, _⊛_, some, later}
+use Rattle.runs.proofs.Walking.{_$_, _∵_, !, qed, move, keep, use1, use3, fsplit, fjoin, await, pick, done, by, raw, split, join, frame, drop, feqI, suffices}
+use Rattle.runs.proofs.Walking.{Item, given, ⋆, runs, anyQ, atRet, Sq, use2, learn, owns, Is, shows, RefT, MutRef, ptr-vals, mut-tells, LentAgain, lends-again}
+use Rattle.runs.proofs.Walking.{comes-back, owned, heard, nothing, facts, Memory, Routine, Fun, fact, u8, Triple, tripleOf, Meets, says, needs, Stays, stay-ref}
+use Rattle.runs.proofs.Walking.{stay-none, walkOf, AllGo, goes-none, goes-ref, Walks, ends-at, walked, walk-meets, stay-none-slice, goes-none-slice, ensured}
+use Rattle.runs.proofs.Walking.{givenOf, tables, look, init, forget, stop, hop, from, load, unit-lit, of-opd, assigns, and-then, no-more, land, returns, enter}
+use Rattle.runs.proofs.Walking.{alloc1, alloc0, params1, pass1, pass0, free1, free0, store, fld, lit, addr, bin, assigns-last, first, skips, jumps, blocks}
+use Rattle.runs.proofs.Walking.{branches, exec, Below, again, loops, FmC, fmOf, WpFn-mono, plain, calls-at, onEntry, entered, cited, yes, Nat·lt-wfRel, ltb→lt}
+use Rattle.runs.proofs.Walking.{nltb→le, lit<, whole, sub, look-in, lft-new, lft-end, sliceVal, ShrSlice, slice-vals, shr-slice-tells, shr-slice-lawful}
+use Rattle.runs.proofs.Walking.{shr-slice-copy, afterTurn, tablesOf, tyAt, second}
 use lib.ListN.{length, drop as dropN}
 use denote.Struct.Laws as LL
 use Rattle.cache.specs.Shape.{shaped}
@@ -29,8 +28,8 @@ use Rattle.model.specs.Runs.{ownReferences}
 use Rattle.runs.specs.Running.{held}
 use Rattle.runs.specs.declared.replay_cache.ReplayCache.{ReplayCache}
 use Rattle.runs.proofs.CacheLaws.{references-turn, references-end, reference-adds}
-use Rattle.runs.proofs.LentCache.{shapeVal, ShapeIs, shape-typed, R, at-cell, After, AfterAll}
-use Rattle.runs.proofs.replay_cache.refer as refer
+use Rattle.runs.proofs.LentCache.{shapeVal, ShapeIs, shape-typed, R, at-cell, After, AfterAll, Hit}
+use Rattle.runs.proofs.ReferCaller.{Refer, ReferenceAt, bit-typed, to-at, goes-at, said-at, to, goes, gives}
 use Rattle.runs.proofs.replay_cache.refer.Symbol as refer-def
 use Rattle.runs.proofs.replay_cache.refer.Symbol.{name as #runs·replay-cache·refer}
 use Rattle.runs.proofs.replay_cache.refer.Met as refer-thm
@@ -55,13 +54,6 @@ turn = code.Mir.turn-1
 
 abbrev rest : Code
 rest = code.Mir.t-5
-
--- the contracts that the proof cites
-abbrev Refer : {M : Type 1} (𝓤 : URA M) (H : Heap 𝓤) (A : Atoms 𝓤) (at-mem : Memory → SProp 𝓤) (run : Routine → Fun 𝓤) → Contract 𝓤
-Refer 𝓤 H A at-mem run = tripleOf 𝓤 H A refer.signature (refer.spec 𝓤 H A at-mem run)
-
-abbrev ReferenceAt : {M : Type 1} (𝓤 : URA M) (H : Heap 𝓤) (A : Atoms 𝓤) (at-mem : Memory → SProp 𝓤) (run : Routine → Fun 𝓤) → Contract 𝓤
-ReferenceAt 𝓤 H A at-mem run = tripleOf 𝓤 H A reference-at.signature (reference-at.spec 𝓤 H A at-mem run)
 
 module _ {M : Type 1} (𝓤 : URA M) (H : Heap 𝓤) (A : Atoms 𝓤) (W : Given 𝓤 H A) (at-mem : Memory → SProp 𝓤) (run : Routine → Fun 𝓤)
     (κ κ′ : Lft) (q q′ : Share) (s : RefT (List ℕ)) (shape : CacheShape) (b o : ℕ) (γ : GName) (h : ReplayCache) (s-is : Is (ShrSlice (named 0) κ u8) s (sliceVal (s .ptr) (length (s .now)) ∷ [])) (shape-is : ShapeIs shape)
@@ -98,46 +90,6 @@ module _ {M : Type 1} (𝓤 : URA M) (H : Heap 𝓤) (A : Atoms 𝓤) (W : Given
       nothing ! $ move ! (2 ∷ 0 ∷ []) $ join ! $ move ! (3 ∷ 0 ∷ []) $ join ! $ frame ! $
       nothing ! $ move ! (1 ∷ 0 ∷ []) $ fjoin ! $ owned ! S.the-row (Is S.the-row) (LL.makes S.the-type S′.the-plain 𝓤 H A) shape _ shape-is $ fjoin ! $ move ! (1 ∷ 0 ∷ []) $ fjoin ! $ frame ! $
       feqI ! (List Val) (vunit ∷ []) (vunit ∷ []) refl $ done !
-
-  -- ---- the call of `reference_at`
-  abbrev to-at : ℕ → ReferenceAt 𝓤 H A at-mem run .Ghost
-  to-at i = (((κ, tt), (q, tt), tt, (s, (i, tt)), (v ∷ [], (vint w64 i ∷ [], tt))), tt)
-
-  goes-at : (i : ℕ) → i < 2 ^ 64 → i < N → ent 𝓤 (sep 𝓤 (sem 𝓤 H A Own) (A .lft κ q)) (ReferenceAt 𝓤 H A at-mem run .pre (to-at i))
-  goes-at i fits less =
-      qed W (‵ Own ∷ ‵ (flft κ q) ∷ []) ∵ says ! less $ nothing ! $ move ! (2 ∷ 0 ∷ []) $ join ! $ frame ! $
-      nothing ! $ owned ! usize (Is usize) (uint-makes 𝓤 H A W w64) i _ (refl, fits) $ fjoin ! $ move ! (1 ∷ 0 ∷ []) $ fjoin ! $ done !
-
-  said-at : (i : ℕ) (m : MemoryBlock) → ent 𝓤 (ensured 𝓤 H A reference-at.ended (reference-at.clauses 𝓤 H A at-mem run) (κ, tt) (s, (i, tt)) tt m) (fact 𝓤 (m .0 ≡ numberAt xs (2 * i)))
-  said-at i m = exE 𝓤 _ (λ ws. snd∗ 𝓤 (sem 𝓤 H A (lasts reference-at.ended (κ, tt) (s, (i, tt)) ws)) (fact 𝓤 (m .0 ≡ numberAt xs (2 * i))))
-
-  -- ---- the call of `refer`: the cache k, lent for the lifetime ν under the name δ; u is the machine value of m
-  abbrev to : ReplayCache → MemoryBlock → Val → ℕ → GName → Refer 𝓤 H A at-mem run .Ghost
-  to k m u ν δ = (((ν ∷ [], tt), (fullShare, tt), tt, (at-cell b o δ k, (m, (shape, tt))), (vptr b o ∷ [], (u ∷ [], (shapeVal shape ∷ [], tt)))), tt)
-
-  goes : (k : ReplayCache) (m : MemoryBlock) (u : Val) (ν : ℕ) (δ : GName) → Is B.the-row m (u ∷ []) → k .misses + 1 < 2 ^ 32
-      → ent 𝓤 (sep 𝓤 (A .lft (ν ∷ []) fullShare) (sem 𝓤 H A (MutRef (named 0) (ν ∷ []) R .own (at-cell b o δ k) (vptr b o ∷ [])))) (Refer 𝓤 H A at-mem run .pre (to k m u ν δ))
-  goes k m u ν δ m-is few =
-      qed W (‵ (flft (ν ∷ []) fullShare) ∷ ‵ (MutRef (named 0) (ν ∷ []) R .own (at-cell b o δ k) (vptr b o ∷ [])) ∷ []) ∵ says ! (pre .0, few) $ nothing ! $
-      move ! (1 ∷ 0 ∷ []) $ join ! $ frame ! $
-      nothing ! $ owned ! S.the-row (Is S.the-row) (LL.makes S.the-type S′.the-plain 𝓤 H A) shape _ shape-is $ fjoin ! $
-      owned ! B.the-row (Is B.the-row) (LL.makes B.the-type B′.the-plain 𝓤 H A) m _ m-is $ fjoin ! $ move ! (1 ∷ 0 ∷ []) $ fjoin ! $ done !
-
-  -- the result is (), the token is back, and the last value is the cache after the reference
-  abbrev Back : ReplayCache → MemoryBlock → ℕ → GName → Val → ReplayCache → SProp 𝓤
-  Back k m ν δ z r = guard 𝓤 ((z ≡ vunit) × After k m shape r) (sep 𝓤 (A .lft (ν ∷ []) fullShare) (A .res δ (R .coded .code r)))
-
-  gives : (k : ReplayCache) (m : MemoryBlock) (u : Val) (ν : ℕ) (δ : GName) (z : Val) → ent 𝓤 (Refer 𝓤 H A at-mem run .post (to k m u ν δ) z) (H .⇛ (ex 𝓤 (Back k m ν δ z)))
-  gives k m u ν δ z =
-      qed W (raw (Refer 𝓤 H A at-mem run .post (to k m u ν δ) z) ∷ []) ∵ updating ! $
-      use1 W (later (some (λ (y : Unit {0}). ((‵ (flft (ν ∷ []) fullShare) ⊛ ‵ ftrue) ⊛ ‵ (Nothing .own y (z ∷ []))) ⊛ raw (ensured 𝓤 H A refer.ended (refer.clauses 𝓤 H A at-mem run) (ν ∷ [], tt) (at-cell b o δ k, (m, (shape, tt))) tt y))))
-      (id⊢ 𝓤 _) $
-      await ! tt $ pick ! (λ y.
-      split ! $ move ! (1 ∷ []) $
-      use1 W (some (λ (ws : ReplayCache × (Unit {0} × (Unit {0} × Unit {0}))). ‵ (lasts refer.ended (ν ∷ [], tt) (at-cell b o δ k, (m, (shape, tt))) ws) ⊛ raw (fact 𝓤 (After k m shape (ws .0))))) (id⊢ 𝓤 _) $
-      pick ! (λ ws.
-      split ! $ move ! (1 ∷ []) $ heard ! (After k m shape (ws .0)) (λ e. fsplit ! $ move ! (2 ∷ []) $ split ! $ move ! (1 ∷ []) $ feqL ! (λ is. split ! $
-      at-once ! $ show ! (Back k m ν δ z) (ws .0) $ check ! (ap only is, e) $ keep ! (0 ∷ 2 ∷ []) $ done !))))
 
   -- ---- the loop: its state, and the order in which the state falls
   abbrev Facts : ℕ → ReplayCache → Type 0
@@ -186,15 +138,15 @@ module _ {M : Type 1} (𝓤 : URA M) (H : Heap 𝓤) (A : Atoms 𝓤) (W : Given
     fm : FmC 𝓤 H (W .laws) C
     fm = fmOf 𝓤 H (W .laws) 𝓣
 
-    module _ (l₀ l₁ l₂ l₃ l₄ l₅ l₆ l₇ l₈ l₉ l₁₀ : ℕ) where
+    module _ (l₀ l₁ l₂ l₃ l₄ l₅ l₆ l₇ l₈ l₉ : ℕ) where
       abbrev En : Env 𝓤 H
-      En = (ty 0, l₀) ∷ (ty 1, l₁) ∷ (ty 2, l₂) ∷ (ty 3, l₃) ∷ (ty 4, l₄) ∷ (ty 5, l₅) ∷ (ty 6, l₆) ∷ (ty 7, l₇) ∷ (ty 8, l₈) ∷ (ty 9, l₉) ∷ (ty 10, l₁₀) ∷ []
+      En = (ty 0, l₀) ∷ (ty 1, l₁) ∷ (ty 2, l₂) ∷ (ty 3, l₃) ∷ (ty 4, l₄) ∷ (ty 5, l₅) ∷ (ty 6, l₆) ∷ (ty 7, l₇) ∷ (ty 8, l₈) ∷ (ty 9, l₉) ∷ []
 
-      -- local j stands at 4 + 2 * (10 - j)
+      -- local j stands at 4 + 2 * (9 - j)
       abbrev At : State → List (Item 𝓤)
       At t =
           ‵ (Lent (t .1 .0)) ∷ ‵ (flft κ′ q′) ∷ ‵ Own ∷ ‵ (flft κ q)
-          ∷ ‵ (froom (ty 10) l₁₀ 0) ∷ ‵ (fdies (ty 10) l₁₀) ∷ ‵ (froom (ty 9) l₉ 0) ∷ ‵ (fdies (ty 9) l₉) ∷ ‵ (froom (ty 8) l₈ 0) ∷ ‵ (fdies (ty 8) l₈) ∷ ‵ (froom (ty 7) l₇ 0) ∷ ‵ (fdies (ty 7) l₇)
+          ∷ ‵ (froom (ty 9) l₉ 0) ∷ ‵ (fdies (ty 9) l₉) ∷ ‵ (froom (ty 8) l₈ 0) ∷ ‵ (fdies (ty 8) l₈) ∷ ‵ (froom (ty 7) l₇ 0) ∷ ‵ (fdies (ty 7) l₇)
           ∷ ‵ (fat fullShare (ty 6) l₆ 0 (vint w64 (length xs))) ∷ ‵ (fdies (ty 6) l₆) ∷ ‵ (fat fullShare (ty 5) l₅ 0 (vint w64 N)) ∷ ‵ (fdies (ty 5) l₅) ∷ ‵ (fat fullShare (ty 4) l₄ 0 (vint w64 (t .0))) ∷ ‵ (fdies (ty 4) l₄)
           ∷ ‵ (fat fullShare (ty 3) l₃ 0 (vptr b o)) ∷ ‵ (fdies (ty 3) l₃) ∷ ‵ (fat fullShare (ty 2) l₂ 0 (shapeVal shape)) ∷ ‵ (fdies (ty 2) l₂) ∷ ‵ (fat fullShare (ty 1) l₁ 0 v) ∷ ‵ (fdies (ty 1) l₁) ∷ ‵ (froom (ty 0) l₀ 0) ∷ ‵ (fdies (ty 0) l₀) ∷ []
 
@@ -204,47 +156,49 @@ module _ {M : Type 1} (𝓤 : URA M) (H : Heap 𝓤) (A : Atoms 𝓤) (W : Given
       turns : (t : State) → Sq W (At t) (runs C Λ En turn (anyQ (Turned t)))
       unfolding afterTurn
       turns t =
-          assigns ! (bin ! (load ! (from ! (stop !)) (look ! 16 refl)) (load ! (from ! (stop !)) (look ! 14 refl)) tt) (from ! (stop !)) (init ! 10 refl (tt, tt)) $
-          first ! $ branches ! (load ! (from ! (stop !)) (look ! 10 refl))
+          assigns ! (bin ! (load ! (from ! (stop !)) (look ! 14 refl)) (load ! (from ! (stop !)) (look ! 12 refl)) tt) (from ! (stop !)) (init ! 8 refl (tt, tt)) $
+          first ! $ branches ! (load ! (from ! (stop !)) (look ! 8 refl))
           (λ less. skips ! $ exec ! C Λ En (second (second turn)) (anyQ (Turned t)) $
-          assigns ! (addr ! (from ! (hop ! (look ! 18 refl) (stop !)))) (from ! (stop !)) (init ! 6 refl (tt, tt)) $
+          assigns ! (addr ! (from ! (hop ! (look ! 16 refl) (stop !)))) (from ! (stop !)) (init ! 6 refl (tt, tt)) $
           -- the next reference
           move ! (2 ∷ []) $ use1 W (‵ Own ⊛ ‵ Own) (shr-slice-copy 𝓤 H A W (named 0) κ u8 .twice s (v ∷ [])) $ split ! $ move ! (0 ∷ 4 ∷ []) $
-          use2 W (raw (ReferenceAt 𝓤 H A at-mem run .pre (to-at (t .0)))) (goes-at (t .0) (fits t) (ltb→lt (t .0) N less)) $
-          -- [what it asks; what the slice owns; the reference; its token; _10; …]
-          calls-at ! fm (ReferenceAt 𝓤 H A at-mem run) known-at (to-at (t .0))
-          (and-then ! (load ! (from ! (stop !)) (look ! 22 refl)) (and-then ! (load ! (from ! (stop !)) (look ! 16 refl)) (no-more !))) (λ u.
+          use2 W (raw (ReferenceAt 𝓤 H A at-mem run .pre (to-at 𝓤 H A W at-mem run κ q s (t .0)))) (goes-at 𝓤 H A W at-mem run κ q s (t .0) (fits t) (ltb→lt (t .0) N less)) $
+          -- [what it asks; what the slice owns; the reference; its token; _9; …]
+          calls-at ! fm (ReferenceAt 𝓤 H A at-mem run) known-at (to-at 𝓤 H A W at-mem run κ q s (t .0))
+          (and-then ! (load ! (from ! (stop !)) (look ! 20 refl)) (and-then ! (load ! (from ! (stop !)) (look ! 14 refl)) (no-more !))) (λ u.
           use1 W (later (some (λ (m : MemoryBlock). ((‵ (flft κ q) ⊛ ‵ ftrue) ⊛ ‵ (B.the-row .own m (u ∷ []))) ⊛ raw (ensured 𝓤 H A reference-at.ended (reference-at.clauses 𝓤 H A at-mem run) (κ, tt) (s, (t .0, tt)) tt m))))
           (id⊢ 𝓤 _) $
           await ! tt $ pick ! (λ m.
-          split ! $ move ! (1 ∷ []) $ use1 W (raw (fact 𝓤 (m .0 ≡ numberAt xs (2 * t .0)))) (said-at (t .0) m) $ heard ! (m .0 ≡ numberAt xs (2 * t .0)) (λ em. split ! $
+          split ! $ move ! (1 ∷ []) $ use1 W (raw (fact 𝓤 (m .0 ≡ numberAt xs (2 * t .0)))) (said-at 𝓤 H A W at-mem run κ q s (t .0) m) $ heard ! (m .0 ≡ numberAt xs (2 * t .0)) (λ em. split ! $
           move ! (1 ∷ []) $
           facts ! B.the-row (Is B.the-row) (shows 𝓤 H A B.the-row) m (u ∷ []) (λ m-is. split ! $ move ! (1 ∷ []) $ drop ! $
-          -- [the slice's token; what the slice owns; the reference; its token; _10; …]
+          -- [the slice's token; what the slice owns; the reference; its token; _9; …]
           land ! (from ! (stop !)) (init ! 4 refl (LL.lawful B.the-type B′.the-laws 𝓤 H A W .typed m _ m-is .0)) $
           -- the cache is lent again
           lft-new ! tt (λ ν. move ! (3 ∷ 4 ∷ []) $
           use2 W (later (some (λ (δ : GName). ‵ (MutRef (named 0) (ν ∷ []) R .own (at-cell b o δ (t .1 .0)) (vptr b o ∷ [])) ⊛ ‵ (LentAgain R κ′ (ν ∷ []) q′ γ b o δ (t .1 .0)))))
           (lends-again 𝓤 H A W R (named 1) κ′ (ν ∷ []) q′ γ b o (named 0) (t .1 .0)) $
           await ! tt $ pick ! (λ δ. split ! $
-          move ! (2 ∷ 0 ∷ []) $ use2 W (raw (Refer 𝓤 H A at-mem run .pre (to (t .1 .0) m u ν δ))) (goes (t .1 .0) m u ν δ m-is (few t (ltb→lt (t .0) N less))) $
-          calls-at ! fm (Refer 𝓤 H A at-mem run) known (to (t .1 .0) m u ν δ)
-          (and-then ! (load ! (from ! (stop !)) (look ! 6 refl)) (and-then ! (load ! (from ! (stop !)) (look ! 4 refl)) (and-then ! (load ! (from ! (stop !)) (look ! 20 refl)) (no-more !)))) (λ z.
-          use1 W (later (some (λ (r : ReplayCache). given ((z ≡ vunit) × After (t .1 .0) m shape r) (‵ (flft (ν ∷ []) fullShare) ⊛ ‵ (fres δ (R .coded .code r)))))) (gives (t .1 .0) m u ν δ z) $
+          move ! (2 ∷ 0 ∷ []) $ use2 W (raw (Refer 𝓤 H A at-mem run .pre (to 𝓤 H A W at-mem run b o (t .1 .0) m u shape ν δ)))
+          (goes 𝓤 H A W at-mem run b o (t .1 .0) m u shape ν δ m-is shape-is (pre .0) (few t (ltb→lt (t .0) N less))) $
+          calls-at ! fm (Refer 𝓤 H A at-mem run) known (to 𝓤 H A W at-mem run b o (t .1 .0) m u shape ν δ)
+          (and-then ! (load ! (from ! (stop !)) (look ! 6 refl)) (and-then ! (load ! (from ! (stop !)) (look ! 4 refl)) (and-then ! (load ! (from ! (stop !)) (look ! 18 refl)) (no-more !)))) (λ z.
+          use1 W (later (some (λ (r : ReplayCache). given ((z ≡ vbool (Hit (t .1 .0) m shape)) × After (t .1 .0) m shape r) (‵ (flft (ν ∷ []) fullShare) ⊛ ‵ (fres δ (R .coded .code r))))))
+          (gives 𝓤 H A W at-mem run b o (t .1 .0) m u shape ν δ z) $
           await ! tt $ pick ! (λ r. learn ! (λ e. split ! $
-          -- [the call's token; the last value; what is lent again; the slice's token; what the slice owns; _10; …]
-          land ! (from ! (stop !)) (init ! 9 refl (subst (λ (y : Val). Holds (hasTy tyUnit y) × WT y) (sym (e .0)) (tt, tt))) $
+          -- [the call's token; the last value; what is lent again; the slice's token; what the slice owns; _9; …]
+          land ! (from ! (stop !)) (store ! 9 refl (bit-typed (Hit (t .1 .0) m shape) z (e .0))) $
           lft-end ! tt $ move ! (0 ∷ 2 ∷ 1 ∷ []) $ use3 W (later (‵ (Lent r) ⊛ ‵ (flft κ′ q′))) (comes-back 𝓤 H A W R (named 1) κ′ (ν ∷ []) q′ γ b o δ (t .1 .0) r) $
           await ! tt $ split ! $ move ! (0 ∷ 1 ∷ 3 ∷ 2 ∷ []) $
-          assigns-last ! (bin ! (load ! (from ! (stop !)) (look ! 16 refl)) (lit ! tt) (record { fits = fits (next t (ltb→lt (t .0) N less) m em r (e .1)) }))
-          (from ! (stop !)) (store ! 16 refl (tt, record { fits = fits (next t (ltb→lt (t .0) N less) m em r (e .1)) })) $
-          forget ! 4 refl $ forget ! 6 refl $ forget ! 8 refl $ forget ! 10 refl $
+          assigns-last ! (bin ! (load ! (from ! (stop !)) (look ! 14 refl)) (lit ! tt) (record { fits = fits (next t (ltb→lt (t .0) N less) m em r (e .1)) }))
+          (from ! (stop !)) (store ! 14 refl (tt, record { fits = fits (next t (ltb→lt (t .0) N less) m em r (e .1)) })) $
+          forget ! 4 refl $ forget ! 6 refl $ forget ! 8 refl $
           again ! Nearer At t (next t (ltb→lt (t .0) N less) m em r (e .1)) (add-one-dec N (t .0) (ltb→lt (t .0) N less))))))))))))
           (λ over. jumps ! $ exec ! C Λ En rest (atRet En Post) $
-          assigns ! (of-opd ! (unit-lit !)) (from ! (stop !)) (init ! 24 refl (tt, tt)) $
-          returns ! (look ! 24 refl) $ forget ! 10 refl $ forget ! 12 refl $ forget ! 14 refl $ forget ! 16 refl $ forget ! 18 refl $ forget ! 20 refl $ forget ! 22 refl $
-          forget ! 24 refl $
-          move ! (24 ∷ 25 ∷ []) $ free1 ! $ move ! (22 ∷ 23 ∷ []) $ free1 ! $ move ! (20 ∷ 21 ∷ []) $ free1 ! $ move ! (18 ∷ 19 ∷ []) $ free1 ! $ move ! (16 ∷ 17 ∷ []) $
+          assigns ! (of-opd ! (unit-lit !)) (from ! (stop !)) (init ! 22 refl (tt, tt)) $
+          returns ! (look ! 22 refl) $ forget ! 8 refl $ forget ! 10 refl $ forget ! 12 refl $ forget ! 14 refl $ forget ! 16 refl $ forget ! 18 refl $ forget ! 20 refl $
+          forget ! 22 refl $
+          move ! (22 ∷ 23 ∷ []) $ free1 ! $ move ! (20 ∷ 21 ∷ []) $ free1 ! $ move ! (18 ∷ 19 ∷ []) $ free1 ! $ move ! (16 ∷ 17 ∷ []) $
           free1 ! $ move ! (14 ∷ 15 ∷ []) $ free1 ! $ move ! (12 ∷ 13 ∷ []) $ free1 ! $ move ! (10 ∷ 11 ∷ []) $ free1 ! $ move ! (8 ∷ 9 ∷ []) $ free1 ! $ move ! (6 ∷ 7 ∷ []) $
           free1 ! $ move ! (4 ∷ 5 ∷ []) $ free1 ! $ free0 ! $
           keep ! (0 ∷ 1 ∷ 2 ∷ 3 ∷ []) $ by ! (exits (t .1 .0) (references-end (shaped 32 shape) xs (t .0) (t .1 .0 .cells) (t .1 .0 .misses) (nltb→le (t .0) N over) ∙ t .1 .1 .2)))
@@ -256,18 +210,18 @@ module _ {M : Type 1} (𝓤 : URA M) (H : Heap 𝓤) (A : Atoms 𝓤) (W : Given
     walk =
         qed W ((‵ (flft κ q) ⊛ ‵ (flft κ′ q′) ⊛ ‵ ftrue) ∷ ‵ (owns (ShrSlice (named 0) κ u8 ∷ S.the-row ∷ MutRef (named 1) κ′ R ∷ []) x at) ∷ []) ∵
         enter ! C Λ code.function (v ∷ shapeVal shape ∷ vptr b o ∷ []) _ $
-        alloc1 ! (λ l₀. alloc1 ! (λ l₁. alloc1 ! (λ l₂. alloc1 ! (λ l₃. alloc1 ! (λ l₄. alloc1 ! (λ l₅. alloc1 ! (λ l₆. alloc1 ! (λ l₇. alloc1 ! (λ l₈. alloc1 ! (λ l₉. alloc1 ! (λ l₁₀. alloc0 ! $
+        alloc1 ! (λ l₀. alloc1 ! (λ l₁. alloc1 ! (λ l₂. alloc1 ! (λ l₃. alloc1 ! (λ l₄. alloc1 ! (λ l₅. alloc1 ! (λ l₆. alloc1 ! (λ l₇. alloc1 ! (λ l₈. alloc1 ! (λ l₉. alloc0 ! $
         params1 ! $
-        pass1 ! (init ! 18 refl (shr-slice-lawful 𝓤 H A W (named 0) κ u8 .typed s (v ∷ []) s-is .0)) $ pass1 ! (init ! 16 refl (shape-typed 𝓤 H A W shape shape-is)) $
-        pass1 ! (init ! 14 refl (tt, tt)) $ pass0 ! $
-        -- local j at 2 * (10 - j); then the tokens, and what the parameters own
-        move ! (23 ∷ []) $ fsplit ! $ move ! (1 ∷ []) $ fsplit ! $ drop ! $ fsplit ! $ move ! (25 ∷ []) $ split ! $ move ! (1 ∷ []) $ split ! $
-        -- [the cache's token; true; the slice's token; what the cache owns; true; what the slice owns; _10; …]
+        pass1 ! (init ! 16 refl (shr-slice-lawful 𝓤 H A W (named 0) κ u8 .typed s (v ∷ []) s-is .0)) $ pass1 ! (init ! 14 refl (shape-typed 𝓤 H A W shape shape-is)) $
+        pass1 ! (init ! 12 refl (tt, tt)) $ pass0 ! $
+        -- local j at 2 * (9 - j); then the tokens, and what the parameters own
+        move ! (21 ∷ []) $ fsplit ! $ move ! (1 ∷ []) $ fsplit ! $ drop ! $ fsplit ! $ move ! (23 ∷ []) $ split ! $ move ! (1 ∷ []) $ split ! $
+        -- [the cache's token; true; the slice's token; what the cache owns; true; what the slice owns; _9; …]
         move ! (3 ∷ 0 ∷ 5 ∷ 2 ∷ []) $ move ! (4 ∷ []) $ drop ! $ move ! (4 ∷ []) $ drop ! $
-        assigns ! (of-opd ! (lit ! tt)) (from ! (stop !)) (init ! 16 refl (tt, record { fits = lit< tt })) $
-        assigns ! (of-opd ! (load ! (from ! (fld ! refl (stop !))) (look-in ! 22 (sub ! 1 refl (whole !))))) (from ! (stop !)) (init ! 12 refl (tt, record { fits = s-is .0 .1 .0 })) $
-        assigns ! (bin ! (load ! (from ! (stop !)) (look ! 12 refl)) (lit ! tt) (omega arith)) (from ! (stop !)) (init ! 14 refl (tt, record { fits = omega arith })) $
-        first ! $ blocks ! $ loops ! 𝓣 Nearer Nearer-wf (At l₀ l₁ l₂ l₃ l₄ l₅ l₆ l₇ l₈ l₉ l₁₀) (turns l₀ l₁ l₂ l₃ l₄ l₅ l₆ l₇ l₈ l₉ l₁₀) start)))))))))))
+        assigns ! (of-opd ! (lit ! tt)) (from ! (stop !)) (init ! 14 refl (tt, record { fits = lit< tt })) $
+        assigns ! (of-opd ! (load ! (from ! (fld ! refl (stop !))) (look-in ! 20 (sub ! 1 refl (whole !))))) (from ! (stop !)) (init ! 10 refl (tt, record { fits = s-is .0 .1 .0 })) $
+        assigns ! (bin ! (load ! (from ! (stop !)) (look ! 10 refl)) (lit ! tt) (omega arith)) (from ! (stop !)) (init ! 12 refl (tt, record { fits = omega arith })) $
+        first ! $ blocks ! $ loops ! 𝓣 Nearer Nearer-wf (At l₀ l₁ l₂ l₃ l₄ l₅ l₆ l₇ l₈ l₉) (turns l₀ l₁ l₂ l₃ l₄ l₅ l₆ l₇ l₈ l₉) start))))))))))
 
 module _ {M : Type 1} (𝓤 : URA M) (H : Heap 𝓤) (A : Atoms 𝓤) (W : Given 𝓤 H A) (at-mem : Memory → SProp 𝓤) (run : Routine → Fun 𝓤) (𝓣 : Tables 𝓤 H)
     (known-at : Triple 𝓤 (𝓣 .C #runs·replay-cache·reference-at) (ReferenceAt 𝓤 H A at-mem run)) (known : Triple 𝓤 (𝓣 .C #runs·replay-cache·refer) (Refer 𝓤 H A at-mem run)) where

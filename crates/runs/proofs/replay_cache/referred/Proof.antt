@@ -1,6 +1,6 @@
 -- `replay_cache::referred` meets its contract: the place of a memory block is a cell of the row, and a miss is a cell that holds another. Assumes nothing.
 use mathlib.Core.Path.{_≡_, refl, _∙_}
-use Prim.Native.Nat.{_%_, _<_}
+use Prim.Native.Nat.{_<_}
 use native.Mathlib.Nat.{mod-lt}
 use native.Mathlib.Omega.{arith}
 use Rattle.cache.specs.Shape.{shaped}

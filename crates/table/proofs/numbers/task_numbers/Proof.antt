@@ -1,8 +1,5 @@
--- `numbers::task_numbers` meets its contract: what was gathered are the states of the task, and their useful sets meet the used sets of each task. Assumes nothing.
-use mathlib.Core.Path.{ap, _∙_}
-use Prim.Native.Nat.{ℕ}
+-- `numbers::task_numbers` meets its contract: what was gathered are the states of the task, and they are met by the end rows of each task. Assumes nothing.
 use native.Mathlib.Omega.{arith}
-use lib.ListN.{length, length-replicate}
 use Rattle.cache.specs.Shape.{shaped}
 use Rattle.body.specs.Decode.{decode, taskOf}
 use Rattle.rows.specs.Rows.{kindLength}
@@ -26,15 +23,15 @@ same-length c = search needs
 
 returns : tie.Need-returns
 returns c =
-    let start = c .before .before .before .before .before .before .before .before .before .before .before .before .before .before in
+    let start = c .before .before .before .before .before .before .before .before .before .before .before .before .before .before .before in
     let gathered = c .before .before .before .before .before .task-rows .ensures in
-    (gathered .long, λ ts used. numbers-full (shaped (start .args .w) (start .args .shape)) (taskOf (decode (start .args .body .now))) gathered ts (start .args .tasks) (c .if1 .taken) (start .pre .5))
+    (gathered .long, λ ts found. numbers-full (shaped (start .args .w) (start .args .shape)) (taskOf (decode (start .args .body .now))) gathered ts (start .args .tasks) (c .if1 .taken) (start .pre .5))
 
 mul-kind : tie.Need-mul-kind
-mul-kind c = omega (arith, c .before .before .before .before .before .before .before .before .before .before .before .before .before .before .pre .2 .narrow)
+mul-kind c = omega (arith, c .before .before .before .before .before .before .before .before .before .before .before .before .before .before .before .pre .2 .narrow)
 
 mul-kind-2 : tie.Need-mul-kind-2
-mul-kind-2 c = omega (arith, c .before .before .before .before .before .before .before .before .before .before .before .before .before .before .pre .2 .narrow)
+mul-kind-2 c = omega (arith, c .before .before .before .before .before .before .before .before .before .before .before .before .before .before .before .pre .2 .narrow)
 
 block-count-requires : tie.Need-block-count-requires
 block-count-requires c κs = search needs
@@ -55,10 +52,10 @@ slice-aggregate-meet-task : tie.Need-slice-aggregate-meet-task
 slice-aggregate-meet-task c = search needs
 
 add-meet-task : tie.Need-add-meet-task
-add-meet-task c = omega (arith, c .before .before .before .before .before .before .before .before .before .before .before .before .before .before .before .before .before .before .before .pre .2 .narrow)
+add-meet-task c = omega (arith, c .before .before .before .before .before .before .before .before .before .before .before .before .before .before .before .before .before .before .before .before .pre .2 .narrow)
 
 mul-meet-task : tie.Need-mul-meet-task
-mul-meet-task c = omega (arith, c .before .before .before .before .before .before .before .before .before .before .before .before .before .before .before .before .before .before .before .pre .2 .narrow)
+mul-meet-task c = omega (arith, c .before .before .before .before .before .before .before .before .before .before .before .before .before .before .before .before .before .before .before .before .pre .2 .narrow)
 
 sub-meet-task-2 : tie.Need-sub-meet-task-2
 sub-meet-task-2 c = search needs
@@ -74,7 +71,7 @@ slice-aggregate-meet-task-2 c = search needs
 
 meet-task-requires : tie.Need-meet-task-requires
 meet-task-requires c κs =
-    let start = c .before .before .before .before .before .before .before .before .before .before .before .before .before .before .before .before .before .before .before .before .before .before in
+    let start = c .before .before .before .before .before .before .before .before .before .before .before .before .before .before .before .before .before .before .before .before .before .before .before in
     let rows = c .before .before .before .before .before .before .before .before .before .before .before .before .before .task-rows in
     let few = c .before .before .before .before .before .before .before .before .if1 .left in
     let k = shaped (start .args .w) (start .args .shape) in
@@ -86,7 +83,7 @@ meet-task-requires c κs =
       reaching-memory k t (rows .ensures) few first second (start .pre .2),
       live-memory k t (rows .ensures) few first second (start .pre .2),
       start .pre .4,
-      ap length (start .pre .5) ∙ length-replicate {A = ℕ} 8 0,
+      start .pre .5,
     )
 
 same-length-2 : tie.Need-same-length-2
@@ -97,7 +94,7 @@ same-length-3 c = search needs
 
 returns-2 : tie.Need-returns-2
 returns-2 c =
-    let start = c .before .before .before .before .before .before .before .before .before .before .before .before .before .before .before .before .before .before .before .before .before .before .before .before .before in
+    let start = c .before .before .before .before .before .before .before .before .before .before .before .before .before .before .before .before .before .before .before .before .before .before .before .before .before .before in
     let rows = c .before .before .before .before .before .before .before .before .before .before .before .before .before .before .before .before .task-rows in
     let few = c .before .before .before .before .before .before .before .before .before .before .before .if1 .left in
     let blocks = c .before .before .before .before .before .before .before .before .before .before .block-count in
@@ -106,9 +103,9 @@ returns-2 c =
     let kind = kindLength (start .args .w) in
     let area = rows .last .1 .1 .1 .0 in (
       rows .ensures .long,
-      λ ts used. numbers-few k t (rows .ensures) few (lent-first kind area) (lent-second kind area) ts (start .args .tasks) (blocks .result) (blocks .ensures .0) (blocks .ensures .2)
+      λ ts found. numbers-few k t (rows .ensures) few (lent-first kind area) (lent-second kind area) ts (start .args .tasks) (blocks .result) (blocks .ensures .0) (blocks .ensures .2)
           (c .before .before .before .before .before .before .before .before .before .unmasked-blocks .ensures) (start .pre .5)
-          used (c .before .before .meet-task .ensures),
+          found (c .before .before .meet-task .ensures),
     )
 
 pub task-numbers-spec : {M : Type 1} → statement M

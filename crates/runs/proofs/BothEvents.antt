@@ -1,0 +1,64 @@
+-- Both runs over the events of a run: their counts at the end are U, D and the lost hits of the definitions.
+-- Each is an induction on the events.
+use mathlib.Core.Path.{_≡_, refl, ap, _∙_}
+use mathlib.Core.List.{List, [], _∷_}
+use Prim.Native.Nat.{ℕ, _+_}
+use native.Mathlib.Omega.{arith}
+use Rattle.cache.specs.Cache.{Cache, emptyRow, misses}
+use Rattle.model.specs.Tasks.{Block, Task, block, references}
+use Rattle.model.specs.Runs.{Preemption, countAtEnd, lostAtEnd}
+use Rattle.model.proofs.Events.{Event, Ref, Preempt, own, refs, disturbed, lost}
+use Rattle.model.proofs.RunEvents.{runEvents, count-events, lost-events, own-run, undisturbed}
+use Rattle.runs.specs.Running.{Both, bothFirst, withBoth, ownBoth, bothPath, preemptedBoth}
+use Rattle.runs.proofs.Segments.{refs-join}
+
+-- both runs after the events
+abbrev pub bothEvents : Cache → Both → List Event → Both
+bothEvents k s [] = s
+bothEvents k s (Ref m ∷ es) = bothEvents k (withBoth k s m) es
+bothEvents k s (Preempt fs ∷ es) = bothEvents k (preemptedBoth k s fs) es
+
+module _ (k : Cache) where
+  events-refs : (ms : List ℕ) (s : Both) (es : List Event) → bothEvents k s (refs ms es) ≡ bothEvents k (ownBoth k s ms) es
+  events-refs [] s es = refl
+  events-refs (m ∷ ms) s es = events-refs ms (withBoth k s m) es
+
+  -- the blocks of a path first
+  pub events-path : (t : Task) (p : List ℕ) (s : Both) (es : List Event) → bothEvents k s (refs (references t p) es) ≡ bothEvents k (bothPath k t s p) es
+  events-path t [] s es = refl
+  events-path t (b ∷ p) s es =
+      ap (bothEvents k s) (refs-join (block t b .references) (references t p) es)
+      ∙ events-refs (block t b .references) s (refs (references t p) es)
+      ∙ events-path t p (ownBoth k s (block t b .references)) es
+
+  -- ---- the three counts
+
+  undisturbed-count : (es : List Event) (s : Both) → bothEvents k s es .undisturbed .count ≡ s .undisturbed .count + misses k (s .undisturbed .row) (own es)
+  undisturbed-count [] s = omega arith
+  undisturbed-count (Ref m ∷ es) s = omega (arith, undisturbed-count es (withBoth k s m))
+  undisturbed-count (Preempt fs ∷ es) s = undisturbed-count es (preemptedBoth k s fs)
+
+  disturbed-count : (es : List Event) (s : Both) → bothEvents k s es .disturbed .count ≡ s .disturbed .count + disturbed k (s .disturbed .row) es
+  disturbed-count [] s = omega arith
+  disturbed-count (Ref m ∷ es) s = omega (arith, disturbed-count es (withBoth k s m))
+  disturbed-count (Preempt fs ∷ es) s = disturbed-count es (preemptedBoth k s fs)
+
+  lost-count : (es : List Event) (s : Both) → bothEvents k s es .lost ≡ s .lost + lost k (s .disturbed .row) (s .undisturbed .row) es
+  lost-count [] s = omega arith
+  lost-count (Ref m ∷ es) s = omega (arith, lost-count es (withBoth k s m))
+  lost-count (Preempt fs ∷ es) s = lost-count es (preemptedBoth k s fs)
+
+  module _ (ts : List Task) (t : Task) (path : List ℕ) (xs : List Preemption) where
+    -- both runs at the end
+    abbrev at-end : Both
+    at-end = bothEvents k (bothFirst k) (runEvents ts t xs 0 path)
+
+    pub end-undisturbed : at-end .undisturbed .count ≡ countAtEnd k ts t path []
+    end-undisturbed =
+        omega (arith, undisturbed-count (runEvents ts t xs 0 path) (bothFirst k), ap (misses k (emptyRow k)) (own-run ts t xs 0 path), undisturbed k ts t path)
+
+    pub end-disturbed : at-end .disturbed .count ≡ countAtEnd k ts t path xs
+    end-disturbed = omega (arith, disturbed-count (runEvents ts t xs 0 path) (bothFirst k), count-events k ts t path xs)
+
+    pub end-lost : at-end .lost ≡ lostAtEnd k ts t path xs
+    end-lost = omega (arith, lost-count (runEvents ts t xs 0 path) (bothFirst k), lost-events k ts t path xs)

@@ -1,0 +1,246 @@
+-- The end rows of a task are those gathered at its end block, and those of each task stand in a part of their own.
+-- The idea: rows that are copied are the same rows; a part that is replaced leaves the others.
+use mathlib.Core.Path.{_≡_, refl, sym, ap, ap₂, _∙_}
+use mathlib.Core.Logic.{_≢_}
+use mathlib.Core.Bool.{Bool, true, false, true≢false}
+use mathlib.Core.List.{List, _∷_, _++_}
+use Prim.Native.Nat.{ℕ, zero, suc, _+_, _*_, _-_, _%_, _≤_, _<_}
+use native.Mathlib.Nat.{not-suc-le-zero, mul-zero}
+use native.Mathlib.Omega.{arith}
+use lib.Dec.{eqb, ltb}
+use lib.ListN.{length, getD, set, take, drop, replicate, length-set, length-replicate, length-append, length-drop}
+use lib.Seq.{getD-set-same, getD-set-other, length-take-le, take-take}
+use borrow.Author.Tests.{eqb-true, eqb-false, ltb-true, ltb-false}
+use borrow.Rule.Slice.PartMut.{putMid}
+use Rattle.cache.specs.Cache.{Cache}
+use Rattle.cache.specs.Sets.{bits}
+use Rattle.cache.proofs.Masks.{bits-none}
+use Rattle.model.specs.Tasks.{Task, end, task}
+use Rattle.model.specs.Computed.{sorted, reaching}
+use Rattle.rows.specs.Rows.{Width, rowsOf, partOf}
+use Rattle.rows.proofs.Parts.{after-first, row-within, replaced-length, replaced-here, replaced-before, replaced-after, lent-back, lent-first, lent-front, part-of-part}
+use Rattle.gather.specs.Gathered.{GatheredRows}
+use Rattle.graphs.specs.TaskRows.{KindRows}
+use Rattle.area.proofs.Areas.{few-rows}
+use Rattle.pairs.specs.Pairs.{someUses, endsOf}
+use Rattle.pairs.proofs.ReplacedSets.{lent-long}
+use Rattle.table.specs.Found.{Few, AllEnds, TaskEnds, EndsFound, NoOthers}
+
+-- ---- rows that were copied
+
+-- the first n rows are those of the first w n numbers
+rows-first : (w n : ℕ) (l m : List ℕ) → take (w * n) l ≡ take (w * n) m → rowsOf w n l ≡ rowsOf w n m
+rows-first w zero l m e = refl
+rows-first w (suc n) l m e =
+    let s = after-first w n in
+    let whole = w * suc n in
+    ap₂ (λ (r : List ℕ) (rs : List (List ℕ)). r ∷ rs)
+    (sym (take-take w whole l (omega (arith, s))) ∙ ap (take w) e ∙ take-take w whole m (omega (arith, s)))
+    (rows-first w n (drop w l) (drop w m)
+    (sym (part-of-part (w * n) w whole l (omega (arith, s))) ∙ ap (λ (x : List ℕ). take (w * n) (drop w x)) e ∙ part-of-part (w * n) w whole m (omega (arith, s))))
+
+-- rows of whole chunks are whole chunks
+pub rows-chunks : (w n : ℕ) → w % 16 ≡ 0 → w * n % 16 ≡ 0
+rows-chunks w zero e = rw (mul-zero w) (omega arith)
+rows-chunks w (suc n) e = omega (arith, after-first w n, rows-chunks w n e)
+
+-- no more than 32 rows, from where the rows of block b of 24 begin
+pub rows-fit : (w b n : ℕ) → b < 24 → n ≤ 32 → (32 * w * b + w * n ≤ 24 * (32 * w)) × (w * n ≤ 32 * w)
+rows-fit w b n h few =
+    let some : w * n ≤ 32 * w = omega (arith, row-within w n 33 (omega arith)) in
+    (omega (arith, row-within (32 * w) b 24 h, some), some)
+
+-- ---- no block has too many rows
+
+pub counts-few : {w : ℕ} {all : ℕ → List (List ℕ)} {rows counts : List ℕ} {full : Bool} → KindRows w all rows counts full → full ≡ false → (b : ℕ) → b < 24 → getD counts b 0 ≤ 32
+counts-few {all = all} h q b l = let few = few-rows all (sym (h .answer) ∙ q) b l in omega (arith, h .gathered q b l .count, few)
+
+module _ (k : Cache) (t : Task) (rows counts ends : List ℕ) {full : Bool} (long : length ends ≡ 32 * k .width) (h : KindRows (k .width) (reaching k t) rows counts full) where
+  -- none where a block has too many reaching states
+  pub ends-full : full ≡ true → TaskEnds k t rows ends 0
+  ends-full q = record { rowsLong = h .long; endsLong = long; few = omega arith; found = λ f. absurd (true≢false (sym q ∙ h .answer ∙ f)); none = λ d. refl }
+
+  -- else the rows gathered at the end block, which were copied to the front of the room
+  module _ (q : full ≡ false) (blocks : ℕ) (e : blocks ≡ length t) (lo : 1 ≤ blocks) (hi : blocks ≤ 24) where
+    abbrev last : ℕ
+    last = blocks - 1
+
+    abbrev count : ℕ
+    count = getD counts last 0
+
+    abbrev first : ℕ
+    first = 32 * k .width * last
+
+    abbrev size : ℕ
+    size = k .width * count
+
+    few : count ≤ 32
+    few = counts-few h q last (omega arith)
+
+    pub lent-size : length (take (first + size - first) (drop first rows)) ≡ size
+    lent-size =
+        let s : first + size - first ≡ size = omega arith in
+        rw s (length-take-le size (drop first rows) (rw length-drop (omega (arith, rows-fit (k .width) last count (omega arith) few, h .long))))
+
+    module _ {copied : List ℕ} (c : copied ≡ take (first + size - first) (drop first rows)) where
+      abbrev filled : List ℕ
+      filled = putMid 0 (size - 0) ends copied
+
+      pub filled-long : length filled ≡ 32 * k .width
+      filled-long =
+          rw (length-append copied (drop (size - 0) ends), length-drop (size - 0) ends)
+          (omega (arith, ap length c, lent-size, long, rows-fit (k .width) last count (omega arith) few))
+
+      same : rowsOf (k .width) count filled ≡ rowsOf (k .width) count (partOf (k .width) rows last)
+      same =
+          let s : first + size - first ≡ size = omega arith in
+          rows-first (k .width) count filled (partOf (k .width) rows last)
+          (sym (lent-first size filled)
+          ∙ lent-front size ends (take (first + size - first) (drop first rows)) c lent-size
+          ∙ ap (λ (n : ℕ). take n (drop first rows)) s
+          ∙ sym (take-take size (32 * k .width) (drop first rows) (rows-fit (k .width) last count (omega arith) few .1)))
+
+      pub ends-few : TaskEnds k t rows filled count
+      ends-few =
+          record {
+            rowsLong = h .long;
+            endsLong = filled-long;
+            few = few;
+            found = λ x. ap sorted same ∙ at-end;
+            none = λ d. absurd (d (sym (h .answer) ∙ q));
+          }
+        where
+          g : GatheredRows (k .width) (reaching k t) rows counts last
+          g = h .gathered q last (omega arith)
+
+          at-end : sorted (rowsOf (k .width) count (partOf (k .width) rows last)) ≡ reaching k t (end t)
+          at-end = rw (g .count) (g .list ∙ ap (reaching k t) (ap (λ (x : ℕ). x - 1) e))
+
+-- ---- the end rows of each task in a part of their own
+
+module _ (k : Cache) (ts : List Task) (j : ℕ) (ends counts unions part : List ℕ) (count : ℕ) (inside : j < 8) (so-far : EndsFound k ts j ends counts unions)
+    {rows : List ℕ} (new : TaskEnds k (task ts j) rows part count) where
+  abbrev w : ℕ
+  w = k .width
+
+  abbrev at : ℕ
+  at = 32 * w * j
+
+  abbrev grown : List ℕ
+  grown = putMid at (at + 32 * w - at) ends part
+
+  abbrev more : List ℕ
+  more = set counts j count
+
+  back : grown ≡ take at ends ++ (part ++ drop (at + 32 * w) ends)
+  back = lent-back at (32 * w) ends part
+
+  fits : at + 32 * w ≤ length ends
+  fits = omega (arith, so-far .room .long, row-within (32 * w) j 8 inside)
+
+  pub grown-ends : length grown ≡ 8 * (32 * w)
+  grown-ends = ap length back ∙ replaced-length ends part at (32 * w) fits (new .endsLong) ∙ so-far .room .long
+
+  -- what is lent of them next are the end rows found
+  lent-again : take (at + 32 * w - at) (drop at grown) ≡ part
+  lent-again =
+      let s : at + 32 * w - at ≡ 32 * w = omega arith in
+      ap₂ (λ (n : ℕ) (l : List ℕ). take n (drop at l)) s back ∙ replaced-here ends part at (32 * w) fits (new .endsLong)
+
+  pub lent-again-long : length (take (at + 32 * w - at) (drop at grown)) ≡ 32 * w
+  lent-again-long = lent-long (32 * w) j 8 grown inside grown-ends
+
+  few-more : (i : ℕ) → i < 8 → getD more i 0 ≤ 32
+  few-more i l = go (eqb i j) refl
+    where
+      go : (b : Bool) → eqb i j ≡ b → getD more i 0 ≤ 32
+      go true e = rw (eqb-true i j e, getD-set-same counts j count 0 (omega (arith, so-far .room .many))) (new .few)
+      go false e = rw (getD-set-other counts j i count 0 (eqb-false i j e)) (so-far .room .few i l)
+
+  -- the end rows of task j are those found, and those of any other task are as before
+  here : endsOf w grown more j ≡ rowsOf w count part
+  here =
+      ap₂ (rowsOf w) (getD-set-same counts j count 0 (omega (arith, so-far .room .many)))
+      (ap (λ (l : List ℕ). take (32 * w) (drop at l)) back ∙ replaced-here ends part at (32 * w) fits (new .endsLong))
+
+  elsewhere : (i : ℕ) → i ≢ j → endsOf w grown more i ≡ endsOf w ends counts i
+  elsewhere i d =
+      ap₂ (rowsOf w) (getD-set-other counts j i count 0 d)
+      (ap (λ (l : List ℕ). take (32 * w) (drop (32 * w * i) l)) back ∙ go (ltb i j) refl)
+    where
+      go : (b : Bool) → ltb i j ≡ b → take (32 * w) (drop (32 * w * i) (take at ends ++ (part ++ drop (at + 32 * w) ends))) ≡ take (32 * w) (drop (32 * w * i) ends)
+      go true e = replaced-before ends part at (32 * w) fits (new .endsLong) (32 * w) (32 * w * i) (omega (arith, row-within (32 * w) i j (ltb-true i j e)))
+      go false e =
+          let after : j < i = omega (arith, ltb-false i j e, d) in
+          replaced-after ends part at (32 * w) fits (new .endsLong) (32 * w) (32 * w * i) (omega (arith, row-within (32 * w) j i after))
+
+  -- with the union of their used sets
+  pub ends-turn : {union : ℕ} → union ≡ bits w (someUses (rowsOf w count (take (at + 32 * w - at) (drop at grown)))) → EndsFound k ts (j + 1) grown more (set unions j union)
+  ends-turn {union} is =
+      record {
+        room =
+            record {
+              width = so-far .room .width;
+              long = grown-ends;
+              many = length-set counts j count ∙ so-far .room .many;
+              each = length-set unions j union ∙ so-far .room .each;
+              few = few-more;
+              joined = λ i l. joined i l (eqb i j) refl;
+              inside = omega arith;
+            };
+        found = λ i l f. found i l f (eqb i j) refl;
+      }
+    where
+      joined : (i : ℕ) → i < 8 → (b : Bool) → eqb i j ≡ b → getD (set unions j union) i 0 ≡ bits w (someUses (endsOf w grown more i))
+      joined i l true e =
+          rw (eqb-true i j e)
+          (getD-set-same unions j union 0 (omega (arith, so-far .room .each))
+          ∙ is
+          ∙ ap (λ (x : List ℕ). bits w (someUses (rowsOf w count x))) lent-again
+          ∙ ap (λ (fs : List (List ℕ)). bits w (someUses fs)) (sym here))
+      joined i l false e =
+          let d = eqb-false i j e in
+          getD-set-other unions j i union 0 d ∙ so-far .room .joined i l ∙ ap (λ (fs : List (List ℕ)). bits w (someUses fs)) (sym (elsewhere i d))
+
+      found : (i : ℕ) → i < j + 1 → Few k (task ts i) → (b : Bool) → eqb i j ≡ b → AllEnds k (task ts i) (endsOf w grown more i)
+      found i l f true e = rw (eqb-true i j e, here) (new .found (rw (eqb-true i j e) at f))
+      found i l f false e =
+          let d = eqb-false i j e in
+          rw (elsewhere i d) (so-far .found i (omega arith) f)
+
+  pub others-turn : NoOthers k ts j counts → NoOthers k ts (j + 1) more
+  others-turn others i d = go (eqb i j) refl
+    where
+      go : (b : Bool) → eqb i j ≡ b → getD more i 0 ≡ 0
+      go true e =
+          let same = eqb-true i j e in
+          rw (same, getD-set-same counts j count 0 (omega (arith, so-far .room .many))) (new .none (λ f. (rw same at d) (omega arith) f))
+      go false e = getD-set-other counts j i count 0 (eqb-false i j e) ∙ others i (λ l. d (omega arith))
+
+-- ---- the tasks of an accepted file
+
+pub getD-zeros : (k i : ℕ) → getD {A = ℕ} (replicate k 0) i 0 ≡ 0
+getD-zeros zero i = refl
+getD-zeros (suc k) zero = refl
+getD-zeros (suc k) (suc i) = getD-zeros k i
+
+-- no end rows yet
+pub ends-none : (k : Cache) (ts : List Task) {ends counts unions : List ℕ} → Width (k .width) → length ends ≡ 8 * (32 * k .width) → counts ≡ replicate 8 0
+    → unions ≡ replicate 8 0 → EndsFound k ts 0 ends counts unions
+ends-none k ts {ends} {counts} {unions} width long zeros none =
+    record {
+      room =
+          record {
+            width = width;
+            long = long;
+            many = ap length zeros ∙ length-replicate {A = ℕ} 8 0;
+            each = ap length none ∙ length-replicate {A = ℕ} 8 0;
+            few = λ j l. rw (zeros, getD-zeros 8 j) (omega arith);
+            joined = λ j l. rw (none, zeros, getD-zeros 8 j) (sym (bits-none (k .width) (λ c. false) (λ c h. refl)));
+            inside = omega arith;
+          };
+      found = λ j l. absurd (not-suc-le-zero l);
+    }
+
+pub others-none : (k : Cache) (ts : List Task) {counts : List ℕ} → counts ≡ replicate 8 0 → NoOthers k ts 0 counts
+others-none k ts zeros j d = rw zeros (getD-zeros 8 j)

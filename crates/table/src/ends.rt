@@ -1,0 +1,73 @@
+// The end rows of all tasks of a file.
+ghost use mathlib.Core.Path.{_≡_};
+ghost use mathlib.Core.Bool.{true};
+ghost use Prim.Native.Nat.{_*_};
+ghost use lib.ListN.{length, replicate};
+ghost use Rattle.cache.specs.Shape.{shaped, Holds};
+ghost use Rattle.rows.specs.Rows.{Width, kindLength, areaLength};
+ghost use Rattle.body.specs.Decode.{decode, taskOf};
+ghost use Rattle.body.specs.Walk.{keptOf};
+ghost use Rattle.project.specs.File.{taskCount};
+ghost use Rattle.project.specs.Reading.{readingOf};
+ghost use Rattle.project.specs.Bodies.{accepted};
+ghost use Rattle.project.specs.Tasks.{tasksOf, fileShape};
+ghost use Rattle.table.specs.Found.{TaskEnds, EndsFound, NoOthers};
+use body::block_count;
+use cache::blocks::CacheShape;
+use graphs::task_rows::reaching_rows;
+use pairs::replaced::used_union;
+use reader::task_body;
+use rows::copy_row;
+
+// The end rows of the task of a body, and how many they are; none where a block has too many reaching states. Left open are the order of the end rows,
+// what stands after them, and the rows.
+fn task_ends(body: &[u8], shape: CacheShape, w: usize, rows: &mut [u16], ends: &mut [u16]) -> usize
+    requires { ⌜ (keptOf (decode (now body)) ≡ true) × Holds w shape × Width w × (length (now rows) ≡ kindLength w) × (length (now ends) ≡ 32 * w) ⌝ }
+    ensures { λ r. ⌜ TaskEnds (shaped w shape) (taskOf (decode (now (body .entry)))) (now (rows .exit)) (now (ends .exit)) r ⌝ }
+{
+    let mut counts = [0usize; 24];
+    if reaching_rows(body, shape, w, rows, &mut counts) {
+        return 0;
+    }
+    let end = block_count(body) - 1;
+    let count = counts[end];
+    let part = 32 * w;
+    let at = part * end;
+    let long = w * count;
+    copy_row(&rows[at..at + long], &mut ends[0..long]);
+    count
+}
+
+// The end rows of each task of an accepted file, with the union of their used sets: those of task j stand from 32 w j on, none where a block has too many
+// reaching states. Left open are the order of the end rows, what stands after them, and the area.
+pub fn find_ends(
+    file: &[u8],
+    shape: CacheShape,
+    w: usize,
+    tasks: usize,
+    area: &mut [u16],
+    ends: &mut [u16],
+    counts: &mut [usize],
+    unions: &mut [u32],
+)
+    requires { ⌜ (accepted (readingOf (now file)) ≡ true) × (shape ≡ fileShape (now file)) × Holds w shape × Width w × (tasks ≡ taskCount (now file))
+        × (length (now area) ≡ areaLength w) × (length (now ends) ≡ 8 * (32 * w)) × (now counts ≡ replicate 8 0) × (now unions ≡ replicate 8 0) ⌝ }
+    ensures { λ _. ⌜ (length (now (area .exit)) ≡ areaLength w)
+        × EndsFound (shaped w shape) (tasksOf (now (file .entry))) tasks (now (ends .exit)) (now (counts .exit)) (now (unions .exit))
+        × NoOthers (shaped w shape) (tasksOf (now (file .entry))) tasks (now (counts .exit)) ⌝ }
+{
+    let part = 32 * w;
+    let kind = 24 * part;
+    for j in 0..tasks {
+        let at = part * j;
+        let count = task_ends(
+            task_body(file, j),
+            shape,
+            w,
+            &mut area[0..kind],
+            &mut ends[at..at + part],
+        );
+        counts[j] = count;
+        unions[j] = used_union(&ends[at..at + part], count, w);
+    }
+}
