@@ -347,15 +347,16 @@ fn compare_runs(report: &mut Report, random: &mut Random, made: &Made, file: &[u
         let allowed: u32 = preempting.iter().map(|&j| table[8 * p + j] as u32).sum();
         let shared = made.shares();
         let fault = broken_bound(&answer, allowed, shared);
-        // runs that pass a masked block and are preempted elsewhere are counted apart, and so are files that share
+        // runs that pass a masked block and are preempted elsewhere are counted apart, and so are files that share, and
+        // runs with fewer misses than without the preemptions
         let passed = &sheet[2..2 + sheet[1] as usize];
         let masked = !preempting.is_empty() && passed.iter().any(|&block| made.tasks[p][block as usize].masked);
         let name = match (masked, shared) {
+            _ if answer[2] < answer[1] => "bounds, D below U",
             (false, false) => "bounds",
             (true, false) => "bounds, masks",
-            (false, true) if answer[2] < answer[1] => "bounds, D below U",
             (false, true) => "bounds, shared",
-            (true, true) => "bounds, both",
+            (true, true) => "bounds, masks and shared",
         };
         report.add(name, 0, file, format!("{sheet:?}"), vec![fault]);
     }

@@ -28,7 +28,7 @@ pub fn states(file: &[u8], task: usize, area: &mut [u16]) -> Result<(), Refusal>
 
 type Sets = Vec<BTreeSet<Row>>;
 
-/// Checks 2 to 10, 15 and 11: the reaching and live states of each block of the task.
+/// Checks 2 to 9, 15 and 11: the reaching and live states of each block of the task.
 fn gathered(file: &[u8], task: usize) -> Result<(Sets, Sets), Refusal> {
     let (n, tasks) = read(file)?;
     let asked = tasks.get(task).ok_or((15, 255))?;

@@ -9,6 +9,8 @@ use native.Mathlib.Omega.{arith}
 use lib.ListN.{getD}
 use borrow.Author.Tests.{lt-ltb, ne-eqb}
 use Rattle.model.specs.Tasks.{task, Apart}
+use Rattle.model.specs.Runs.{DisturbedRun}
+use Rattle.model.specs.Demand.{BoundedApart}
 use Rattle.model.specs.Numbers.{NumberOverAll}
 use Rattle.model.proofs.Most.{pair-is}
 use Rattle.model.proofs.OldNumbers.{without-masks}
@@ -27,6 +29,7 @@ use Rattle.project.specs.declared.answers.Reading.the-variants.{Accepted}
 use Rattle.project.proofs.TaskFaults.{Bytes}
 use Rattle.project.proofs.Accepted.{unless-passed, then-passed, passing, accepted-passed}
 use Rattle.project.proofs.FileRules.{file-rules, file-demand-3}
+use Rattle.reader.proofs.TaskBodies.{tasks-long}
 use Rattle.table.specs.Table.{test1, tableCheck, entryOf, tableOf}
 use Rattle.table.proofs.TableLaws.{place-at}
 use Rattle.table.proofs.Answers.{later-parts}
@@ -66,7 +69,19 @@ demand-3-whole s h n t e =
 
 -- a file of which no two tasks share a memory block
 pub runs-apart : (s : List ℕ) → Bytes s → (n t : ℕ) → readingOf s ≡ Accepted n t → Apart (tasksOf s) → RunsApart s
-runs-apart s h n t e apart run = bounded-apart (fileCache s) (tasksOf s) (file-rules s h n t e) run apart
+runs-apart s h n t e apart = record {
+  runs = each;
+  answers = λ sheet u d l q.
+      let x = replayed s h sheet u d l q in
+      let b = each (x .run) in
+      (omega (arith, x .undisturbed, x .disturbed, b .lower), omega (arith, x .undisturbed, x .disturbed, x .lost, b .equal));
+  reached = λ i j hi hj ne some.
+      let x = file-demand-3 s h n t e .reached i j (rw (tasks-long s) hi) (rw (tasks-long s) hj) ne some in
+      (x .run, x .task-i, x .once, omega (arith, x .equal, each (x .run) .equal));
+}
+  where
+    each : (run : DisturbedRun (tasksOf s)) → BoundedApart (fileCache s) (tasksOf s) run
+    each run = bounded-apart (fileCache s) (tasksOf s) (file-rules s h n t e) run apart
 
 -- such a file without masked blocks has the numbers of document 01 alone
 pub numbers-without-masks : (s : List ℕ) → Apart (tasksOf s) → NoMasks s → (i j : ℕ) → i ≢ j

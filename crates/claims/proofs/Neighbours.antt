@@ -1,5 +1,6 @@
 -- False neighbours of demand 3 and of Points 3 and 5, refuted over files and calls.
--- The idea: E's replay has U = 2 and D = 3, and its pair numbers are 1 and 0; with byte 18 = 01 task 0 is masked, with byte 28 = 01 task 1.
+-- The idea: E's replay has U = 2 and D = 3, and its pair numbers are 1 and 0; with byte 18 = 01 task 0 is masked, with byte 28 = 01 task 1. The
+-- files whose tasks share memory blocks are those of the model's tasks, and their answers are computed.
 use mathlib.Core.Path.{_≡_, refl, ap}
 use mathlib.Core.List.{List, [], _∷_, map}
 use Prim.Native.Nat.{ℕ, _+_, _≤_}
@@ -104,7 +105,7 @@ bothFile = fileOf 2 (map bodyBytes tasksBoth)
 abbrev sameFile : List ℕ
 sameFile = fileOf 1 (map bodyBytes tasksSame)
 
--- what Reader and Replay answer for them, and the third file's numbers by both counts
+-- what Reader and Replay answer for them, and the pair numbers of the second and the third
 pub shared-answers : (readingOf gainFile ≡ Accepted 1 2) × (readingOf bothFile ≡ Accepted 2 2) × (readingOf sameFile ≡ Accepted 1 2)
     × (replayingOf gainFile (0 ∷ 2 ∷ 0 ∷ 1 ∷ 1 ∷ 0 ∷ 1 ∷ 1 ∷ 0 ∷ []) ≡ Counted 1 0 0)
     × (replayingOf bothFile (0 ∷ 2 ∷ 0 ∷ 1 ∷ 1 ∷ 0 ∷ 1 ∷ 1 ∷ 0 ∷ []) ≡ Counted 2 2 1)

@@ -2,12 +2,12 @@
 use mathlib.Core.Path.{_≡_}
 use mathlib.Core.Logic.{_≢_}
 use mathlib.Core.List.{List}
-use Prim.Native.Nat.{ℕ, _+_, _*_, _<_}
+use Prim.Native.Nat.{ℕ, _+_, _*_, _≤_, _<_}
 use lib.ListN.{length, getD}
 use Rattle.cache.specs.References.{All}
-use Rattle.model.specs.Tasks.{Unmasked, task}
+use Rattle.model.specs.Tasks.{Unmasked, SomeUnmasked, task}
 use Rattle.model.specs.Numbers.{PairNumber}
-use Rattle.model.specs.Runs.{DisturbedRun, U, D, lostHits}
+use Rattle.model.specs.Runs.{DisturbedRun, OnceBy, U, D, lostHits}
 use Rattle.model.specs.Demand.{Demand3, BoundedApart}
 use Rattle.project.specs.declared.answers.Filling.the-variants.{Filled}
 use Rattle.project.specs.File.{File, taskCount}
@@ -45,7 +45,8 @@ fileLost s run = lostHits (fileCache s) run
 -- "Where replay accepts a sheet of the run, U and D are its answers.": of the run that is given; Point 5: "Replay adds a third number"
 abbrev pub ReplayAnswers : File → Type 0
 ReplayAnswers s =
-    (run : DisturbedRun (tasksOf s)) (u d l : ℕ) → replayingOf s (sheetOf s run) ≡ Counted u d l → (u ≡ fileU s run) × (d ≡ fileD s run) × (l ≡ fileLost s run)
+    (run : DisturbedRun (tasksOf s)) (u d l : ℕ) → replayingOf s (sheetOf s run) ≡ Counted u d l
+    → (u ≡ fileU s run) × (d ≡ fileD s run) × (l ≡ fileLost s run)
 
 -- every sheet that replay accepts is that of a disturbed run
 abbrev pub SheetsDescribe : File → Type 0
@@ -61,9 +62,16 @@ RunsReplayed s =
 abbrev pub NoMasks : File → Type 0
 NoMasks s = (i b : ℕ) → b < length (task (tasksOf s) i) → Unmasked (task (tasksOf s) i) b
 
--- for a file of which no two tasks share a memory block: U <= D, and D is U and the lost hits, of every disturbed run
-abbrev pub RunsApart : File → Type 0
-RunsApart s = (run : DisturbedRun (tasksOf s)) → BoundedApart (fileCache s) (tasksOf s) run
+-- a run of i with exactly one preemption, by j, whose D is U plus the pair number
+abbrev pub ReachedApart : File → ℕ → ℕ → Type 0
+ReachedApart s i j = (run : DisturbedRun (tasksOf s)) × (run .p ≡ i) × OnceBy j (run .preemptions) × (fileD s run ≡ fileU s run + filePair s i j)
+
+-- what document 01 says of a file of which no two tasks share a memory block, and more: of every disturbed run and of Replay's answers U <= D, and D is
+-- U and the lost hits; and for every two different tasks, the first with an unmasked block, D - U reaches the number
+pub record RunsApart (s : File) : Type 0 where
+  pub runs : (run : DisturbedRun (tasksOf s)) → BoundedApart (fileCache s) (tasksOf s) run
+  pub answers : (sheet : Sheet) (u d l : ℕ) → replayingOf s sheet ≡ Counted u d l → (u ≤ d) × (d ≡ u + l)
+  pub reached : (i j : ℕ) → i < taskCount s → j < taskCount s → j ≢ i → SomeUnmasked (task (tasksOf s) i) → ReachedApart s i j
 
 -- demand 3 whole, over an accepted file: for every disturbed run the lost hits are at most the sum of the pair numbers and D at most U + that sum, and
 -- for every two different tasks, the first with an unmasked block, a run with exactly one preemption whose lost hits are its number (`Demand3`); the

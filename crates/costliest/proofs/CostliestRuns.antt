@@ -16,7 +16,7 @@ use Rattle.model.specs.Computed.{unmasked, pairNumber}
 use Rattle.model.proofs.Paths.{path-last, path-join, path-at}
 use Rattle.model.proofs.Most.{unmasked-exact, masked-zero}
 use Rattle.model.proofs.Width.{pair-width}
-use Rattle.model.proofs.RunEvents.{none-lost}
+use Rattle.model.proofs.Hits.{none-lost}
 use Rattle.model.proofs.Demand.{once, split-lost}
 use Rattle.runs.proofs.Widths.{lost-width}
 use Rattle.project.specs.declared.answers.Writing.the-variants.{Written}

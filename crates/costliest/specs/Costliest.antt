@@ -57,7 +57,7 @@ twoTests w s i j = forTwo i j 0 (map (test11 (fileCacheIn w s)) (tasksOf s))
 abbrev pub FaultOfTwo : File → ℕ → ℕ → ℕ → Type 0
 FaultOfTwo s i j a = ((a ≡ i) ⊎ (a ≡ j)) × Of (Fault11 (fileCache s)) [] (tasksOf s) a
 
--- "Checks: 18, .., after 10; 19, .., after 18", in a file of t tasks; by Point 5 10 "is never given any more"
+-- "Checks: 18, .., after 10; 19, .., after 18", in a file of t tasks; without 10 (Point 5)
 abbrev pub askedChecks : ℕ → ℕ → ℕ → Sheet → List Entry
 askedChecks t i j sheet = one 18 noTask (test18 t i j) (Fault18 t i j) ∷ one 19 noTask (test19 sheet) (Fault19 sheet) ∷ []
 

@@ -39,7 +39,8 @@ pub fn find_trails(
 ) -> TaskTrails
     requires { ⌜ (accepted (readingOf (now file)) ≡ true) × (shape ≡ fileShape (now file)) × Holds w shape × Width w × (number < taskCount (now file))
         × (length (now area) ≡ areaLength w) ⌝ }
-    ensures { λ r. ⌜ AreaTrails (shaped w shape) (task (tasksOf (now (file .entry))) number) (now (area .exit)) (r .reached) (r .lived) (r .to) (r .on) (r .full) ⌝ }
+    ensures { λ r. ⌜ AreaTrails (shaped w shape) (task (tasksOf (now (file .entry))) number)
+        (now (area .exit)) (r .reached) (r .lived) (r .to) (r .on) (r .full) ⌝ }
 {
     let mut reached = [0usize; 24];
     let mut lived = [0usize; 24];

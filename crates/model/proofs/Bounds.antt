@@ -32,7 +32,8 @@ use Rattle.model.proofs.Most.{unmasked-most}
 use Rattle.model.proofs.Events.{Event, Ref, Preempt, own, refs, disturbed, lost, total, Parts, Clean, EventsApart}
 use Rattle.model.proofs.Lost.{total-refs, lost-same, upper-same}
 use Rattle.model.proofs.Disjoint.{disturbed-lost}
-use Rattle.model.proofs.RunEvents.{preempts, runEvents, count-events, own-preempts, own-run, undisturbed, lost-events, weigh, weighAt, weighAt-le}
+use Rattle.model.proofs.RunEvents.{preempts, runEvents, count-events, own-preempts, own-run, undisturbed, weigh, weighAt, weighAt-le}
+use Rattle.model.proofs.Hits.{lost-events}
 
 each-withPoint : (P : Preemption → Type 0) (i : ℕ) (xs : List Preemption) → Each P xs → Each P (withPoint i xs)
 each-withPoint P i [] h = tt

@@ -22,7 +22,8 @@ use Rattle.model.proofs.OnPath.{to-and-from}
 use Rattle.model.proofs.Most.{pair-is, masked-zero}
 use Rattle.model.proofs.Events.{Event, Preempt, refs, lost, Clean}
 use Rattle.model.proofs.Lost.{lost-once}
-use Rattle.model.proofs.RunEvents.{lost-events, run-once}
+use Rattle.model.proofs.RunEvents.{run-once}
+use Rattle.model.proofs.Hits.{lost-events}
 use Rattle.model.proofs.Bounds.{bounded, clean-run}
 
 module _ (k : Cache) (ts : List Task) (ok : Rules ts) (i j : ℕ) (hi : i < length ts) (hj : j < length ts) (ne : j ≢ i) where

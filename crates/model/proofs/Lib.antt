@@ -9,6 +9,7 @@ pub mod Disjoint
 pub mod Most
 pub mod OldNumbers
 pub mod RunEvents
+pub mod Hits
 pub mod Bounds
 pub mod Demand
 pub mod Sorted

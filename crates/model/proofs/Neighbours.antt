@@ -3,7 +3,7 @@
 use mathlib.Core.Path.{_≡_, refl}
 use mathlib.Core.Bool.{Bool, true, _&&_, false≢true}
 use mathlib.Core.List.{List, [], _∷_}
-use Prim.Native.Nat.{ℕ, zero, suc, _+_, _≤_, _<_}
+use Prim.Native.Nat.{ℕ, zero, suc, _≤_, _<_}
 use native.Mathlib.Omega.{arith}
 use lib.Dec.{eqb}
 use lib.ListN.{length, getD, drop}
@@ -19,7 +19,7 @@ use Rattle.model.specs.Runs.{Preemption, Preempts, DisturbedRun, ownHits
 use Rattle.model.specs.Computed.{State, sameState, close, liveNext, rounds, rowsAt, reachingStates, unmasked, most, pairNumber}
 use Rattle.model.specs.Demand.{pairSum, NonePreempted}
 use Rattle.model.proofs.Sorted.{reaching-rows}
-use Rattle.model.proofs.RunEvents.{none-lost}
+use Rattle.model.proofs.Hits.{none-lost}
 use Rattle.model.proofs.Bounds.{bounded}
 use Rattle.model.proofs.Most.{over-all-is}
 use Rattle.model.proofs.Demand.{none-preempted}

@@ -30,9 +30,9 @@ pub record Most (v : Count) (k : Cache) (i j : Task) (At : ℕ → Type 0) (x : 
   pub bound : (rows : Rows k i j) → At (rows .at) → counted v rows ≤ x
   pub attained : (x ≡ 0) ⊎ ((rows : Rows k i j) × At (rows .at) × (counted v rows ≡ x))
 
--- "Pair number of task i preempted by task j: the most cache blocks .. over all blocks, row pairs and" end rows; Point 1: "Pair numbers range
--- over blocks with flag 0 and are 0 if a task has none."; Point 5: "A cache block counts when it is useful in i and the end state of j holds
--- something there other than the useful memory block."
+-- "Pair number of task i preempted by task j: the most cache blocks .., over all blocks, row pairs and used sets."; Point 1: "Pair numbers range
+-- over blocks with flag 0 and are 0 if a task has none."; Point 5, which puts end rows in place of used sets: "A cache block counts when it is
+-- useful in i and the end state of j holds something there other than the useful memory block."
 abbrev pub PairNumber : Cache → Task → Task → ℕ → Type 0
 PairNumber k i j x = Most (usefulReplaced k) k i j (Unmasked i) x
 

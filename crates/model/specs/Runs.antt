@@ -116,7 +116,7 @@ lostOf [] after = 0
 lostOf (h ∷ before) [] = 0
 lostOf (h ∷ before) (g ∷ after) = bit (h && not g) + lostOf before after
 
--- the misses in such a list: U and D are those of the two lists (proofs/RunEvents, `misses-of-hits`)
+-- the misses in such a list: U and D are those of the two lists (proofs/Hits, `misses-of-hits`)
 abbrev pub missesIn : List Bool → ℕ
 missesIn [] = 0
 missesIn (h ∷ hs) = bit (not h) + missesIn hs

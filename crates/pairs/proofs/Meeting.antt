@@ -17,7 +17,7 @@ use Rattle.cache.specs.Sets.{inSet}
 use Rattle.model.specs.Lists.{best}
 use Rattle.rows.specs.Rows.{rowsOf}
 use Rattle.gather.specs.Memory.{heldRows}
-use Rattle.pairs.specs.Pairs.{usefulSet, mostCommon, rowMost, blockMost, within, taskMost, endsOf, Met}
+use Rattle.pairs.specs.Pairs.{mostCommon, setsMost, rowMost, blockMost, within, taskMost, endsOf, Met}
 use Rattle.pairs.proofs.ReplacedSets.{rows-more}
 
 -- ---- the most that a set has in common with one of some sets
@@ -32,6 +32,19 @@ module _ (u : ℕ) (vs : List ℕ) where
 
   pub most-end : (k m : ℕ) → length vs ≤ k → max m (mostCommon u (drop k vs)) ≡ mostCommon u vs → m ≡ mostCommon u vs
   most-end k m h i = let n : mostCommon u (drop k vs) ≡ 0 = ap (mostCommon u) (drop-of-length-le vs {i = k} h) in omega arith
+
+-- the most over the useful sets, of which those from k on are left: a turn raises m by the set numbered k
+module _ (us vs : List ℕ) (number : ℕ) where
+  pub sets-turn : (k m : ℕ) {new : ℕ} → k < length us → new ≡ max m (mostCommon (getD us k 0) vs) → max m (setsMost (drop k us) vs) ≡ max number (setsMost us vs)
+      → max new (setsMost (drop (k + 1) us) vs) ≡ max number (setsMost us vs)
+  sets-turn k m {new} h q i =
+      let n : setsMost (drop k us) vs ≡ max (mostCommon (getD us k 0) vs) (setsMost (drop (k + 1) us) vs) = rw (drop-cons us k 0 h, add-one k) in
+      omega (arith, n, q, i)
+
+  pub sets-end : (k m : ℕ) → length us ≤ k → max m (setsMost (drop k us) vs) ≡ max number (setsMost us vs) → m ≡ max number (setsMost us vs)
+  sets-end k m h i =
+      let n : setsMost (drop k us) vs ≡ 0 = ap (λ (x : List ℕ). setsMost x vs) (drop-of-length-le us {i = k} h) in
+      omega (arith, n, i)
 
 -- a set has no more in common with another than it has
 
@@ -60,13 +73,6 @@ best-append f (x ∷ a) b = omega (arith, best-append f a b)
 
 best-more : (f : List ℕ → ℕ) (w k : ℕ) (l : List ℕ) → best f (rowsOf w (k + 1) l) ≡ max (best f (rowsOf w k l)) (f (take (w * k + w - w * k) (drop (w * k) l)))
 best-more f w k l = let row = take (w * k + w - w * k) (drop (w * k) l) in ap (best f) (rows-more w k l) ∙ best-append f (rowsOf w k l) (row ∷ []) ∙ omega arith
-
--- a turn of the pass over the live rows: the largest so far is that of the number and of the first k live rows
-pub live-turn : (row live sets : List ℕ) (w k number : ℕ) {set old new : ℕ} → old ≡ max number (best (λ (l : List ℕ). mostCommon (usefulSet row l) sets) (rowsOf w k live))
-    → set ≡ usefulSet row (take (w * k + w - w * k) (drop (w * k) live)) → new ≡ max old (mostCommon set sets)
-    → new ≡ max number (best (λ (l : List ℕ). mostCommon (usefulSet row l) sets) (rowsOf w (k + 1) live))
-live-turn row live sets w k number e d q =
-    omega (arith, e, q, ap (λ (u : ℕ). mostCommon u sets) d, best-more (λ (l : List ℕ). mostCommon (usefulSet row l) sets) w k live)
 
 block-more : (w k : ℕ) (reaching : List ℕ) (ls fs : List (List ℕ))
     → blockMost (rowsOf w (k + 1) reaching) ls fs ≡ max (blockMost (rowsOf w k reaching) ls fs) (rowMost (take (w * k + w - w * k) (drop (w * k) reaching)) ls fs)
@@ -123,6 +129,11 @@ module _ (w : ℕ) (ends counts : List ℕ) where
       go i h false q =
           let d = eqb-false i j q in
           getD-set-other now j i x 0 d ∙ so-far .each i (omega arith)
+
+  -- the same most, written otherwise
+  pub met-same : {a b : List (List ℕ) → ℕ} (tasks : ℕ) {n n' : List ℕ} → ((fs : List (List ℕ)) → b fs ≡ a fs) → Met a w ends counts tasks n n' → Met b w ends counts tasks n n'
+  met-same tasks {n} e p =
+      record { long = p .long; each = λ j h. p .each j h ∙ ap (max (getD n j 0)) (sym (e (endsOf w ends counts j))); rest = p .rest }
 
   module _ (tasks : ℕ) {n n' n'' : List ℕ} where
     -- rows after rows

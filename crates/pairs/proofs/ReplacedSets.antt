@@ -4,7 +4,7 @@
 use mathlib.Core.Path.{_≡_, refl, sym, ap, ap₂, _∙_}
 use mathlib.Core.Logic.{inl, inr}
 use mathlib.Core.Bool.{Bool, true, false, not, _&&_, _||_, or-assoc, or-false, false≢true}
-use mathlib.Core.List.{List, [], _∷_, _++_, map-append}
+use mathlib.Core.List.{List, [], _∷_, _++_, map, map-append}
 use Prim.Native.Nat.{ℕ, _+_, _-_, _*_, _≤_, _<_, max}
 use native.Mathlib.Nat.{mul-comm, le-trans}
 use native.Mathlib.Numerals.{add-one}
@@ -24,7 +24,7 @@ use Rattle.model.specs.Lists.{best}
 use Rattle.model.proofs.Membership.{or-cases, or-left, or-right, both-left, both-right}
 use Rattle.rows.specs.Rows.{Width, rowsOf}
 use Rattle.rows.proofs.Parts.{row-within, rows-snoc}
-use Rattle.pairs.specs.Pairs.{usedSet, usefulSet, replacedSet, replacedSets, anyRow, someReplaces, someUses, mostCommon, Covered, rowMost}
+use Rattle.pairs.specs.Pairs.{usedSet, usefulSet, replacedSets, anyRow, someReplaces, someUses, mostCommon, rowMost}
 
 -- ---- the row numbered k of at most m rows, lent as a part from w k to w k + w: it has its width
 
@@ -69,16 +69,15 @@ module _ (test : List ℕ → ℕ → Bool) (w k : ℕ) (l : List ℕ) where
       ∙ bits-or w (λ c. anyRow (λ (f : List ℕ). test f c) (rowsOf w k l)) (test row)
       ∙ bits-cong w _ _ (λ c h. any-more c)
 
--- the set of the next row, stored after the sets so far
-pub replaced-more : (r : List ℕ) (w k : ℕ) (l sets : List ℕ) {v : ℕ} → k < length sets → take k sets ≡ replacedSets r (rowsOf w k l)
-    → v ≡ replacedSet (take (w * k + w - w * k) (drop (w * k) l)) r → take (k + 1) (set sets k v) ≡ replacedSets r (rowsOf w (k + 1) l)
-replaced-more r w k l sets {v} h e d =
-    let f : List ℕ → ℕ = λ (x : List ℕ). replacedSet x r in
+-- what f makes of the next row, stored after what it makes of the rows so far
+pub stored-more : (f : List ℕ → ℕ) (w k : ℕ) (l sets : List ℕ) {v : ℕ} → k < length sets → take k sets ≡ map f (rowsOf w k l)
+    → v ≡ f (take (w * k + w - w * k) (drop (w * k) l)) → take (k + 1) (set sets k v) ≡ map f (rowsOf w (k + 1) l)
+stored-more f w k l sets {v} h e d =
     ap (λ (n : ℕ). take n (set sets k v)) (add-one k)
     ∙ take-suc-set sets k v h
     ∙ ap₂ (λ (a : List ℕ) (x : ℕ). a ++ (x ∷ [])) e d
     ∙ sym (map-append f (rowsOf w k l) (take (w * k + w - w * k) (drop (w * k) l) ∷ []))
-    ∙ ap (replacedSets r) (sym (rows-more w k l))
+    ∙ ap (map f) (sym (rows-more w k l))
 
 -- a set stored at n leaves those after it
 pub after-new : (first sets : List ℕ) (n v : ℕ) → drop n sets ≡ drop n first → drop (n + 1) (set sets n v) ≡ drop (n + 1) first
@@ -105,12 +104,13 @@ best-below f n h [] = omega arith
 best-below f n h (x ∷ l) = omega (arith, h x, best-below f n h l)
 
 module _ (r : List ℕ) where
-  pub all-covers : (fs : List (List ℕ)) → Covered r (replacedSets r fs) (bits (length r) (someReplaces fs r))
-  all-covers [] l = omega arith
-  all-covers (f ∷ fs) l =
+  pub all-bounds : (fs : List (List ℕ)) (l : List ℕ)
+      → mostCommon (usefulSet r l) (replacedSets r fs) ≤ ones (bitAnd (usefulSet r l) (bits (length r) (someReplaces fs r)))
+  all-bounds [] l = omega arith
+  all-bounds (f ∷ fs) l =
       let one = common-mono (length r) (useful r l) (replaces f r) (useful r l) (someReplaces (f ∷ fs) r) (λ c e. e) (λ c e. or-left (replaces f r c) (someReplaces fs r c) e) in
       let more = common-mono (length r) (useful r l) (someReplaces fs r) (useful r l) (someReplaces (f ∷ fs) r) (λ c e. e) (λ c e. or-right (replaces f r c) (someReplaces fs r c) e) in
-      omega (arith, one, more, all-covers fs l)
+      omega (arith, one, more, all-bounds fs l)
 
   -- a useful cache block of the row is used by it, and what an end row replaces is used by the end row
   some-used : (fs : List (List ℕ)) (c : ℕ) → someReplaces fs r c ≡ true → someUses fs c ≡ true
@@ -124,7 +124,7 @@ module _ (r : List ℕ) where
     most-held : rowMost r ls fs ≤ ones (bitAnd (usedSet r) (bits (length r) (someReplaces fs r)))
     most-held =
         best-below (λ (l : List ℕ). mostCommon (usefulSet r l) (replacedSets r fs)) (ones (bitAnd (usedSet r) (bits (length r) (someReplaces fs r))))
-        (λ l. le-trans (all-covers fs l)
+        (λ l. le-trans (all-bounds fs l)
         (common-mono (length r) (useful r l) (someReplaces fs r) (used r) (someReplaces fs r) (λ c e. both-right (eqb (held r c) (held l c)) (used r c) e) (λ c e. e)))
         ls
 
@@ -138,11 +138,3 @@ module _ (r : List ℕ) where
 
       pub stays-replaced : other ≡ bits (length r) (someReplaces fs r) → number ≡ max number (rowMost r ls fs)
       stays-replaced d = omega (arith, few, e, ap₂ (λ (x y : ℕ). ones (bitAnd x y)) is d, most-held)
-
-    -- the first of the sets were lent as a part, and all is their union
-    module _ {part : List ℕ} (e : part ≡ replacedSets r fs) where
-      pub part-covered : {all : ℕ} → all ≡ bits (length r) (someReplaces fs r) → Covered r part all
-      part-covered d = rw (e, d) (all-covers fs)
-
-      pub part-most : (number : ℕ) {x : ℕ} → x ≡ max number (best (λ (l : List ℕ). mostCommon (usefulSet r l) part) ls) → x ≡ max number (rowMost r ls fs)
-      part-most number q = q ∙ ap (λ (vs : List ℕ). max number (best (λ (l : List ℕ). mostCommon (usefulSet r l) vs) ls)) e

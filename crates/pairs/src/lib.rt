@@ -1,3 +1,4 @@
 // The numbers of one task against all tasks, from gathered rows.
 pub mod numbers;
 pub mod replaced;
+pub mod useful;

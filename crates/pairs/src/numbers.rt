@@ -1,19 +1,18 @@
 // The numbers of a task: for each task the most cache blocks that are useful in the one and replaced by the other.
 ghost use mathlib.Core.Path.{_≡_};
-ghost use mathlib.Core.List.{List};
-ghost use Prim.Native.Nat.{ℕ, _*_, _≤_, max};
+ghost use mathlib.Core.List.{map};
+ghost use Prim.Native.Nat.{_*_, _≤_, max};
 ghost use lib.Bits.{bitAnd};
 ghost use lib.Count.{ones};
 ghost use lib.ListN.{length};
 ghost use Rattle.cache.specs.Sets.{bits};
-ghost use Rattle.model.specs.Lists.{best};
 ghost use Rattle.rows.specs.Rows.{Width, rowsOf};
 ghost use Rattle.gather.specs.Memory.{Memory, heldRows};
-ghost use Rattle.pairs.specs.Pairs.{usedSet, usefulSet, someUses, mostCommon, Covered, rowMost, blockMost, within, taskMost, EndRows, Met};
+ghost use Rattle.pairs.specs.Pairs.{usedSet, someUses, mostCommon, setsMost, NoMoreThanAll, UsefulSets, usefulMost, rowMost, blockMost, within, taskMost, EndRows, mayRaise, mayRaiseSome, Met};
 use crate::replaced::replaced_sets;
+use crate::useful::useful_sets;
 use cache::sets::common;
 use cache::sets::used;
-use cache::sets::useful;
 
 // The most cache blocks that the set has in common with one of the sets.
 pub fn most_common(set: u32, sets: &[u32]) -> u32
@@ -29,12 +28,15 @@ pub fn most_common(set: u32, sets: &[u32]) -> u32
     most
 }
 
-// The number, raised to the most that the set has in common with one of the sets. It has no more in common with one of them than with `all`, so that
-// it is not met by each of them where this is no more than `number`.
-fn raised(number: u16, set: u32, sets: &[u32], all: u32) -> u16
-    requires { ⌜ mostCommon set (now sets) ≤ ones (bitAnd set all) ⌝ }
+// The number, raised to the most that the set, of `size` cache blocks, has in common with one of the sets. It has no more in common with one of them
+// than its size, nor than it has with `all`, so that it is not met by each of them where one of these is no more than `number`.
+fn raised(number: u16, set: u32, size: u32, sets: &[u32], all: u32) -> u16
+    requires { ⌜ (size ≡ ones set) × (mostCommon set (now sets) ≤ ones (bitAnd set all)) ⌝ }
     ensures { λ r. ⌜ r ≡ max number (mostCommon set (now (sets .entry))) ⌝ }
 {
+    if size <= number as u32 {
+        return number;
+    }
     if common(set, all) <= number as u32 {
         return number;
     }
@@ -42,45 +44,34 @@ fn raised(number: u16, set: u32, sets: &[u32], all: u32) -> u16
     if number < most { most } else { number }
 }
 
-// The number, raised to the most that a useful set of the row with one of the first `lived` live rows has in common with one of the sets.
-fn raised_by_live(
-    number: u16,
-    row: &[u16],
-    live: &[u16],
-    lived: usize,
-    sets: &[u32],
-    all: u32,
-) -> u16
-    requires { ⌜ Width (length (now row)) × (length (now live) ≡ 32 * length (now row)) × (lived ≤ 32) × Covered (now row) (now sets) all ⌝ }
-    ensures { λ r. ⌜ r ≡ max number (best (λ (l : List ℕ). mostCommon (usefulSet (now (row .entry)) l) (now (sets .entry)))
-        (rowsOf (length (now (row .entry))) lived (now (live .entry)))) ⌝ }
+// The number, raised to the most that one of the useful sets, of these sizes, has in common with one of the sets.
+fn raised_by_sets(number: u16, useful: &[u32], sizes: &[u32], sets: &[u32], all: u32) -> u16
+    requires { ⌜ (now sizes ≡ map ones (now useful)) × NoMoreThanAll (now useful) (now sets) all ⌝ }
+    ensures { λ r. ⌜ r ≡ max number (setsMost (now (useful .entry)) (now (sets .entry))) ⌝ }
 {
-    let w = row.len();
     let mut most = number;
-    for k in 0..lived {
-        let at = w * k;
-        let set = useful(row, &live[at..at + w]);
-        most = raised(most, set, sets, all);
+    for k in 0..useful.len() {
+        most = raised(most, useful[k], sizes[k], sets, all);
     }
     most
 }
 
-// The number, raised to the most for a reaching row, its live rows and the first `count` end rows of one task; `held` is the used set of the row,
-// and `joined` the union of the used sets of the end rows. The live rows are not looked at where these tell that the number stays.
+// The number, raised to the most for a reaching row, its useful sets, of these sizes, and the first `count` end rows of one task; `held` is the used
+// set of the row, and `joined` the union of the used sets of the end rows. The useful sets are not looked at where these tell that the number stays.
 fn raised_by_row(
     number: u16,
     row: &[u16],
     held: u32,
-    live: &[u16],
-    lived: usize,
+    useful: &[u32],
+    sizes: &[u32],
     ends: &[u16],
     count: usize,
     joined: u32,
 ) -> u16
-    requires { ⌜ Width (length (now row)) × (held ≡ usedSet (now row)) × (length (now live) ≡ 32 * length (now row)) × (lived ≤ 32)
+    requires { ⌜ Width (length (now row)) × (held ≡ usedSet (now row)) × UsefulSets (now row) (now useful) (now sizes)
         × (length (now ends) ≡ 32 * length (now row)) × (count ≤ 32)
         × (joined ≡ bits (length (now row)) (someUses (rowsOf (length (now row)) count (now ends)))) ⌝ }
-    ensures { λ r. ⌜ r ≡ max number (rowMost (now (row .entry)) (rowsOf (length (now (row .entry))) lived (now (live .entry)))
+    ensures { λ r. ⌜ r ≡ max number (usefulMost (now (row .entry)) (now (useful .entry))
         (rowsOf (length (now (row .entry))) count (now (ends .entry)))) ⌝ }
 {
     if common(held, joined) <= number as u32 {
@@ -91,10 +82,89 @@ fn raised_by_row(
     if common(held, all) <= number as u32 {
         return number;
     }
-    raised_by_live(number, row, live, lived, &sets[0..count], all)
+    raised_by_sets(number, useful, sizes, &sets[0..count], all)
 }
 
-// A reaching row and its first `lived` live rows are met by the end rows of each task.
+// A reaching row, by its used set and its useful sets, of these sizes, is met by the end rows of each task.
+fn meet_sets(
+    row: &[u16],
+    held: u32,
+    useful: &[u32],
+    sizes: &[u32],
+    ends: &[u16],
+    counts: &[usize],
+    unions: &[u32],
+    tasks: usize,
+    numbers: &mut [u16],
+)
+    requires { ⌜ EndRows (length (now row)) (now ends) (now counts) (now unions) tasks × (held ≡ usedSet (now row))
+        × UsefulSets (now row) (now useful) (now sizes) × (length (now numbers) ≡ 8) ⌝ }
+    ensures { λ _. ⌜ Met (usefulMost (now (row .entry)) (now (useful .entry)))
+        (length (now (row .entry))) (now (ends .entry)) (now (counts .entry)) tasks (now (numbers .entry)) (now (numbers .exit)) ⌝ }
+{
+    let part = 32 * row.len();
+    for j in 0..tasks {
+        let at = part * j;
+        numbers[j] = raised_by_row(
+            numbers[j],
+            row,
+            held,
+            useful,
+            sizes,
+            &ends[at..at + part],
+            counts[j],
+            unions[j],
+        );
+    }
+}
+
+// Whether a reaching row may raise the number against the first `count` end rows of one task: else it has no more cache blocks than `number` among
+// those that the end rows use, whose union is `joined`, or among those where they replace what it holds. `held` is its used set.
+fn may_raise(number: u16, row: &[u16], held: u32, ends: &[u16], count: usize, joined: u32) -> bool
+    requires { ⌜ Width (length (now row)) × (length (now ends) ≡ 32 * length (now row)) × (count ≤ 32) ⌝ }
+    ensures { λ r. ⌜ r ≡ mayRaise (now (row .entry)) held joined number (rowsOf (length (now (row .entry))) count (now (ends .entry))) ⌝ }
+{
+    if common(held, joined) <= number as u32 {
+        return false;
+    }
+    let mut sets = [0u32; 32];
+    let all = replaced_sets(row, ends, count, &mut sets);
+    (number as u32) < common(held, all)
+}
+
+// Whether a reaching row may raise one of the numbers.
+fn may_raise_some(
+    row: &[u16],
+    held: u32,
+    ends: &[u16],
+    counts: &[usize],
+    unions: &[u32],
+    tasks: usize,
+    numbers: &[u16],
+) -> bool
+    requires { ⌜ EndRows (length (now row)) (now ends) (now counts) (now unions) tasks × (length (now numbers) ≡ 8) ⌝ }
+    ensures { λ r. ⌜ r ≡ mayRaiseSome (now (row .entry)) held (now (ends .entry)) (now (counts .entry)) (now (unions .entry))
+        (now (numbers .entry)) tasks ⌝ }
+{
+    let part = 32 * row.len();
+    for j in 0..tasks {
+        let from = part * j;
+        if may_raise(
+            numbers[j],
+            row,
+            held,
+            &ends[from..from + part],
+            counts[j],
+            unions[j],
+        ) {
+            return true;
+        }
+    }
+    false
+}
+
+// A reaching row and its first `lived` live rows are met by the end rows of each task. The useful sets are made once for all tasks, and only where a
+// number may be raised.
 fn meet_row(
     row: &[u16],
     live: &[u16],
@@ -110,19 +180,21 @@ fn meet_row(
     ensures { λ _. ⌜ Met (rowMost (now (row .entry)) (rowsOf (length (now (row .entry))) lived (now (live .entry))))
         (length (now (row .entry))) (now (ends .entry)) (now (counts .entry)) tasks (now (numbers .entry)) (now (numbers .exit)) ⌝ }
 {
-    let part = 32 * row.len();
     let held = used(row);
-    for j in 0..tasks {
-        let at = part * j;
-        numbers[j] = raised_by_row(
-            numbers[j],
+    if may_raise_some(row, held, ends, counts, unions, tasks, numbers) {
+        let mut sets = [0u32; 32];
+        let mut sizes = [0u32; 32];
+        useful_sets(row, live, lived, &mut sets, &mut sizes);
+        meet_sets(
             row,
             held,
-            live,
-            lived,
-            &ends[at..at + part],
-            counts[j],
-            unions[j],
+            &sets[0..lived],
+            &sizes[0..lived],
+            ends,
+            counts,
+            unions,
+            tasks,
+            numbers,
         );
     }
 }
@@ -178,7 +250,8 @@ pub fn meet_task(
 )
     requires { ⌜ (blocks ≤ 24) × Memory w (now reaching) (now reached) × Memory w (now live) (now lived)
         × EndRows w (now ends) (now counts) (now unions) tasks × (length (now numbers) ≡ 8) ⌝ }
-    ensures { λ _. ⌜ Met (taskMost (within unmasked (heldRows w (now (reaching .entry)) (now (reached .entry)))) (heldRows w (now (live .entry)) (now (lived .entry))) blocks 0)
+    ensures { λ _. ⌜ Met (taskMost (within unmasked (heldRows w (now (reaching .entry)) (now (reached .entry))))
+        (heldRows w (now (live .entry)) (now (lived .entry))) blocks 0)
         w (now (ends .entry)) (now (counts .entry)) tasks (now (numbers .entry)) (now (numbers .exit)) ⌝ }
 {
     let part = 32 * w;

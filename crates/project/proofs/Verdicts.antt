@@ -120,6 +120,6 @@ filling-verdict es h = go (verdictOf es) (verdict-exact es h)
     go Passed v = v
     go (Failed c a) v = v
 
--- "Reader checks 2 to 10."; document 02, Point 5: "so 10 is never given any more"
+-- "Reader checks 2 to 10."; without 10 (document 02, Point 5)
 pub reader-order : (s : List ℕ) → numbers (fileChecks s) ≡ 2 ∷ 3 ∷ 4 ∷ 5 ∷ 6 ∷ 7 ∷ 8 ∷ 9 ∷ []
 reader-order s = refl

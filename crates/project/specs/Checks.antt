@@ -53,6 +53,3 @@ Fault8 s = Layout s → ⊥
 -- "a block on no complete path", in the task of a body that keeps its layout
 abbrev pub Fault9 : Body → Type 0
 Fault9 s = (t : Task) × (s ≡ bodyBytes t) × InBounds t × (b : ℕ) × (b < length t) × (OnCompletePath t b → ⊥)
-
--- "two tasks share a memory block" is no fault here: document 02, Point 5, "so 10 is never given any more". That no two tasks of a file s
--- share one is `Apart (tasksOf s)` (model: Tasks).

@@ -96,7 +96,7 @@ module _ (s sheet : List ℕ) where
       go Passed e v = (v, its-run (passed-sheet s sheet (then-passed (fileCheck s) (sheetCheck s sheet) (sym (replay-parts s sheet) ∙ e) .1)))
       go (Failed c a) e v = v
 
-  -- "Replay checks 2 to 10, 12, 13.", and then 16; document 02, Point 5: "10 is never given any more"
+  -- "Replay checks 2 to 10, 12, 13.", and then 16; without 10 (document 02, Point 5)
   pub replay-order : numbers (replayChecks s sheet) ≡ 2 ∷ 3 ∷ 4 ∷ 5 ∷ 6 ∷ 7 ∷ 8 ∷ 9 ∷ 12 ∷ 13 ∷ 16 ∷ []
   replay-order = refl
 

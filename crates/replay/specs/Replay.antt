@@ -45,7 +45,7 @@ sheetChecks s sheet =
 abbrev pub sheetCheck : File → Sheet → Check
 sheetCheck s sheet = verdictOf (sheetChecks s sheet)
 
--- "Replay checks 2 to 10, 12, 13.", and then 16; Point 5: "10 is never given any more"
+-- "Replay checks 2 to 10, 12, 13.", and then 16; without 10 (Point 5)
 abbrev pub replayChecks : File → Sheet → List Entry
 replayChecks s sheet = fileChecks s ++ sheetChecks s sheet
 
@@ -63,10 +63,11 @@ disturbedIn s r = countAtEnd (fileCache s) (tasksOf s) (task (tasksOf s) (r .p))
 abbrev pub lostIn : File → SheetRun → ℕ
 lostIn s r = lostAtEnd (fileCache s) (tasksOf s) (task (tasksOf s) (r .p)) (r .path) (r .preemptions)
 
--- the three counts where the checks pass, else the check that fails first and the task it names
+-- the three counts of a run
 abbrev pub countedIn : File → SheetRun → Replaying
 countedIn s r = Counted (undisturbedIn s r) (disturbedIn s r) (lostIn s r)
 
+-- the counts where the checks pass, else the check that fails first and the task it names
 abbrev pub pickReplaying : Check → Replaying → Replaying
 pickReplaying Passed counted = counted
 pickReplaying (Failed c a) counted = Refused c a

@@ -27,7 +27,8 @@ use runs::replay_cache::ReplayCache;
 fn preempted(file: &[u8], j: usize, path: &[u16], shape: CacheShape, runs: BothRuns) -> BothRuns
     requires { ⌜ (accepted (readingOf (now file)) ≡ true) × (j < taskCount (now file)) × (shape ≡ fileShape (now file))
         × All (λ b. b < length (task (tasksOf (now file)) j)) (now path) × (16 * length (now path) < 2 ^ 32) ⌝ }
-    ensures { λ r. ⌜ heldBoth r ≡ preemptedBoth (shaped 32 shape) (heldBoth runs) (references (task (tasksOf (now (file .entry))) j) (now (path .entry))) ⌝ }
+    ensures { λ r. ⌜ heldBoth r ≡ preemptedBoth (shaped 32 shape) (heldBoth runs) (references (task (tasksOf (now (file .entry))) j)
+        (now (path .entry))) ⌝ }
 {
     let undisturbed = runs.undisturbed;
     let own = runs.disturbed;

@@ -10,7 +10,7 @@ use Rattle.project.specs.Reading.{fileChecks}
 use Rattle.table.specs.Table.{fullChecks, tableOf}
 use Rattle.text.specs.Text.{tableText, refusalLine}
 
--- "Table checks 1 to 11", of which 1 is about its lists and not about the file; document 02, Point 5: "so 10 is never given any more"
+-- "Table checks 1 to 11", of which 1 is about its lists and not about the file; without 10 (document 02, Point 5)
 unfoldable pub checksOf : File → Check
 checksOf s = verdictOf (fileChecks s ++ fullChecks 16 s)
 

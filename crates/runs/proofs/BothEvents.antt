@@ -8,9 +8,9 @@ use Rattle.cache.specs.Cache.{Cache, emptyRow, misses}
 use Rattle.model.specs.Tasks.{Block, Task, block, references}
 use Rattle.model.specs.Runs.{Preemption, countAtEnd, lostAtEnd}
 use Rattle.model.proofs.Events.{Event, Ref, Preempt, own, refs, disturbed, lost}
-use Rattle.model.proofs.RunEvents.{runEvents, count-events, lost-events, own-run, undisturbed}
+use Rattle.model.proofs.RunEvents.{runEvents, count-events, own-run, refs-join, undisturbed}
+use Rattle.model.proofs.Hits.{lost-events}
 use Rattle.runs.specs.Running.{Both, bothFirst, withBoth, ownBoth, bothPath, preemptedBoth}
-use Rattle.runs.proofs.Segments.{refs-join}
 
 -- both runs after the events
 abbrev pub bothEvents : Cache → Both → List Event → Both

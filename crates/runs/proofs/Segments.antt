@@ -2,7 +2,7 @@
 -- The idea: at the next position i, only preemptions with the point i - 1 can still be due there, and those come first in the list.
 use mathlib.Core.Path.{_≡_, refl, sym, ap, _∙_}
 use mathlib.Core.Bool.{Bool, true, false, cond}
-use mathlib.Core.List.{List, [], _∷_, _++_, append-nil}
+use mathlib.Core.List.{List, [], _∷_, append-nil}
 use Prim.Native.Nat.{ℕ, zero, suc, _+_, _-_, _≤_, _<_}
 use native.Mathlib.Omega.{arith}
 use lib.Dec.{eqb}
@@ -12,7 +12,7 @@ use Rattle.model.specs.Lists.{Each}
 use Rattle.model.specs.Tasks.{Block, Task, block, references, task}
 use Rattle.model.specs.Runs.{Preemption, NeverFall, withPoint}
 use Rattle.model.proofs.Events.{Event, Preempt, refs}
-use Rattle.model.proofs.RunEvents.{preempts, runEvents, run-quiet}
+use Rattle.model.proofs.RunEvents.{preempts, runEvents, refs-join, run-quiet}
 
 -- each point is at least i - 1, and they never fall
 abbrev pub Rises : ℕ → List Preemption → Type 0
@@ -39,10 +39,6 @@ none-due i j (x ∷ xs) r h = rw (ne-eqb (x .point) i (λ e. omega (arith, r .0)
 none-before : (i : ℕ) (x : Preemption) (xs : List Preemption) → i ≤ x .point → Rises (suc (x .point)) xs → dueBefore i (x ∷ xs) ≡ []
 none-before zero x xs h r = refl
 none-before (suc i) x xs h r = rw (ne-eqb (x .point) i (λ e. omega arith), none-due i (suc (x .point)) xs r (omega arith))
-
-pub refs-join : (a b : List ℕ) (es : List Event) → refs (a ++ b) es ≡ refs a (refs b es)
-refs-join [] b es = refl
-refs-join (m ∷ a) b es = rw (refs-join a b es)
 
 module _ (ts : List Task) (t : Task) where
   -- the events of the run from the position i on, whose blocks are p, by its preemptions

@@ -14,7 +14,8 @@ use Rattle.cache.proofs.Rows.{length-emptyRow, length-withReference, length-wit
 use Rattle.model.specs.Tasks.{Task}
 use Rattle.model.specs.Runs.{Preemption, countAtEnd, lostAtEnd}
 use Rattle.model.proofs.Events.{Event, Ref, Preempt, disturbed, lost}
-use Rattle.model.proofs.RunEvents.{runEvents, count-events, lost-events}
+use Rattle.model.proofs.RunEvents.{runEvents, count-events}
+use Rattle.model.proofs.Hits.{lost-events}
 use Rattle.model.proofs.Width.{padded, padded-empty, padded-reference, padded-references, held-inner}
 
 module _ (n : ℕ) (pos : 0 < n) (d : ℕ) where

@@ -19,7 +19,7 @@ pub struct BothRuns {
     pub lost: u32,
 }
 
-// The lost hits after one own reference more: whether it hits in the undisturbed run, and in the disturbed one.
+// The lost hits after one own reference more; `undisturbed` and `disturbed` tell whether it hits in either run.
 fn with_lost(lost: u32, undisturbed: bool, disturbed: bool) -> u32
     requires { ⌜ lost + 1 < 2 ^ 32 ⌝ }
     ensures { λ r. ⌜ r ≡ lost + bit (undisturbed && not disturbed) ⌝ }
@@ -41,7 +41,8 @@ pub fn refer_both(
 ) -> u32
     requires { ⌜ Holds 32 shape × CountsFit (both (held (now undisturbed)) (held (now disturbed)) lost) (length (now references) / 2) ⌝ }
     ensures { λ r. ⌜ both (held (now (undisturbed .exit))) (held (now (disturbed .exit))) r
-        ≡ ownBoth (shaped 32 shape) (both (held (now (undisturbed .entry))) (held (now (disturbed .entry))) lost) (numbers (now (references .entry))) ⌝ }
+        ≡ ownBoth (shaped 32 shape) (both (held (now (undisturbed .entry))) (held (now (disturbed .entry))) lost) (numbers
+        (now (references .entry))) ⌝ }
 {
     let mut so_far = lost;
     for i in 0..references.len() / 2 {

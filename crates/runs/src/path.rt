@@ -33,14 +33,15 @@ pub fn refer_path(
     cache: &mut ReplayCache,
 )
     requires { ⌜ PathIn (now body) (now starts) (now path) × Holds 32 shape × (now cache .misses + 16 * length (now path) < 2 ^ 32) ⌝ }
-    ensures { λ _. ⌜ held (now (cache .exit)) ≡ ownPath (shaped 32 shape) (taskOf (decode (now (body .entry)))) (held (now (cache .entry))) (now (path .entry)) ⌝ }
+    ensures { λ _. ⌜ held (now (cache .exit)) ≡ ownPath (shaped 32 shape) (taskOf (decode (now (body .entry)))) (held
+        (now (cache .entry))) (now (path .entry)) ⌝ }
 {
     for i in 0..path.len() {
         refer_all(references_on(body, starts, path, i), shape, cache);
     }
 }
 
-// The same on both lent caches, as own references; the lost hits are counted on.
+// The same on both lent caches of a run, as own references; the lost hits are counted on.
 pub fn refer_path_both(
     body: &[u8],
     starts: &[usize],
@@ -50,9 +51,11 @@ pub fn refer_path_both(
     disturbed: &mut ReplayCache,
     lost: u32,
 ) -> u32
-    requires { ⌜ PathIn (now body) (now starts) (now path) × Holds 32 shape × CountsFit (both (held (now undisturbed)) (held (now disturbed)) lost) (16 * length (now path)) ⌝ }
+    requires { ⌜ PathIn (now body) (now starts) (now path) × Holds 32 shape
+        × CountsFit (both (held (now undisturbed)) (held (now disturbed)) lost) (16 * length (now path)) ⌝ }
     ensures { λ r. ⌜ both (held (now (undisturbed .exit))) (held (now (disturbed .exit))) r
-        ≡ bothPath (shaped 32 shape) (taskOf (decode (now (body .entry)))) (both (held (now (undisturbed .entry))) (held (now (disturbed .entry))) lost) (now (path .entry)) ⌝ }
+        ≡ bothPath (shaped 32 shape) (taskOf (decode (now (body .entry))))
+        (both (held (now (undisturbed .entry))) (held (now (disturbed .entry))) lost) (now (path .entry)) ⌝ }
 {
     let mut so_far = lost;
     for i in 0..path.len() {
@@ -67,7 +70,7 @@ pub fn refer_path_both(
     so_far
 }
 
-// The same for callers that hold the cache by value: a local is lent.
+// The same as `refer_path`, for callers that hold the cache by value: a local is lent.
 pub fn after_path(
     body: &[u8],
     starts: &[usize],
@@ -83,7 +86,7 @@ pub fn after_path(
     lent
 }
 
-// The same for both caches by value.
+// The same as `refer_path_both`, for callers that hold both caches by value.
 pub fn after_path_both(
     body: &[u8],
     starts: &[usize],

@@ -74,7 +74,8 @@ fn over_live(
     sets: &[u32],
 ) -> Found
     requires { ⌜ Width (length (now row)) × (length (now live) ≡ 32 * length (now row)) × (lived ≤ 32) ⌝ }
-    ensures { λ r. ⌜ Raised (OfLive block reaching (now (row .entry)) (rowsOf (length (now (row .entry))) lived (now (live .entry))) (now (sets .entry))) old r ⌝ }
+    ensures { λ r. ⌜ Raised (OfLive block reaching (now (row .entry))
+        (rowsOf (length (now (row .entry))) lived (now (live .entry))) (now (sets .entry))) old r ⌝ }
 {
     let w = row.len();
     let mut found = old;
@@ -97,7 +98,8 @@ fn over_row(
     ends: &[u16],
     ended: usize,
 ) -> Found
-    requires { ⌜ Width (length (now row)) × (length (now live) ≡ 32 * length (now row)) × (lived ≤ 32) × (length (now ends) ≡ 32 * length (now row)) × (ended ≤ 32) ⌝ }
+    requires { ⌜ Width (length (now row)) × (length (now live) ≡ 32 * length (now row)) × (lived ≤ 32)
+        × (length (now ends) ≡ 32 * length (now row)) × (ended ≤ 32) ⌝ }
     ensures { λ r. ⌜ Raised (OfRow block reaching (now (row .entry)) (rowsOf (length (now (row .entry))) lived (now (live .entry)))
         (rowsOf (length (now (row .entry))) ended (now (ends .entry)))) old r ⌝ }
 {
@@ -118,8 +120,10 @@ fn over_reaching(
     ends: &[u16],
     ended: usize,
 ) -> Found
-    requires { ⌜ Width w × (length (now reaching) ≡ 32 * w) × (reached ≤ 32) × (length (now live) ≡ 32 * w) × (lived ≤ 32) × (length (now ends) ≡ 32 * w) × (ended ≤ 32) ⌝ }
-    ensures { λ r. ⌜ Raised (OfBlock block (rowsOf w reached (now (reaching .entry))) (rowsOf w lived (now (live .entry))) (rowsOf w ended (now (ends .entry)))) old r ⌝ }
+    requires { ⌜ Width w × (length (now reaching) ≡ 32 * w) × (reached ≤ 32) × (length (now live) ≡ 32 * w) × (lived ≤ 32)
+        × (length (now ends) ≡ 32 * w) × (ended ≤ 32) ⌝ }
+    ensures { λ r. ⌜ Raised (OfBlock block (rowsOf w reached (now (reaching .entry))) (rowsOf w lived (now (live .entry)))
+        (rowsOf w ended (now (ends .entry)))) old r ⌝ }
 {
     let mut found = old;
     for k in 0..reached {
@@ -152,8 +156,10 @@ pub fn search(
     ends: &[u16],
     ended: usize,
 ) -> Found
-    requires { ⌜ (blocks ≤ 24) × Memory w (now reaching) (now reached) × Memory w (now live) (now lived) × (length (now ends) ≡ 32 * w) × (ended ≤ 32) ⌝ }
-    ensures { λ r. ⌜ Searched unmasked (heldRows w (now (reaching .entry)) (now (reached .entry))) (heldRows w (now (live .entry)) (now (lived .entry)))
+    requires { ⌜ (blocks ≤ 24) × Memory w (now reaching) (now reached) × Memory w (now live) (now lived) × (length (now ends) ≡ 32 * w)
+        × (ended ≤ 32) ⌝ }
+    ensures { λ r. ⌜ Searched unmasked (heldRows w (now (reaching .entry)) (now (reached .entry)))
+        (heldRows w (now (live .entry)) (now (lived .entry)))
         (rowsOf w ended (now (ends .entry))) blocks r ⌝ }
 {
     let part = 32 * w;

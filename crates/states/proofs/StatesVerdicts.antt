@@ -56,6 +56,6 @@ module _ (w : ℕ) (wide-enough : 16 ≤ w) (s : List ℕ) (h : Bytes s) (j : �
   unfolding fillingOf
   states-verdict = filling-verdict (statesChecks w s j area) states-agreeing
 
-  -- "States checks 1 to 10, 15, then 11 for its task."; document 02, Point 5: "so 10 is never given any more"
+  -- "States checks 1 to 10, 15, then 11 for its task."; without 10 (document 02, Point 5)
   pub states-order : numbers (statesChecks w s j area) ≡ 1 ∷ 2 ∷ 3 ∷ 4 ∷ 5 ∷ 6 ∷ 7 ∷ 8 ∷ 9 ∷ 15 ∷ 11 ∷ []
   states-order = refl

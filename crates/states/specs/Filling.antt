@@ -40,7 +40,7 @@ askedChecks w s j =
     ∷ one 11 j (test11 (fileCacheIn w s) (task (tasksOf s) j)) (Fault11 (fileCache s) (task (tasksOf s) j))
     ∷ []
 
--- "States checks 1 to 10, 15, then 11 for its task."; document 02, Point 5: "so 10 is never given any more"
+-- "States checks 1 to 10, 15, then 11 for its task."; without 10 (document 02, Point 5)
 abbrev pub statesChecks : ℕ → File → ℕ → Area → List Entry
 statesChecks w s j area = one 1 noTask (test1 w area) (Fault1 w area) ∷ (fileChecks s ++ askedChecks w s j)
 

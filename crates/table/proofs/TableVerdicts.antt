@@ -44,6 +44,6 @@ module _ (w : ℕ) (wide-enough : 16 ≤ w) (s : List ℕ) (h : Bytes s) (area t
   pub table-verdict : FillingVerdict (tableChecks w s area table) (tableAnswer w s area table)
   table-verdict = filling-verdict (tableChecks w s area table) table-agreeing
 
-  -- "Table checks 1 to 11."; document 02, Point 5: "10 is never given any more"
+  -- "Table checks 1 to 11."; without 10 (document 02, Point 5)
   pub table-order : numbers (tableChecks w s area table) ≡ 1 ∷ 2 ∷ 3 ∷ 4 ∷ 5 ∷ 6 ∷ 7 ∷ 8 ∷ 9 ∷ 11 ∷ []
   table-order = refl

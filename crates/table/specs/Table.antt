@@ -35,7 +35,7 @@ firstFull k j ts = lowest 11 j (map (test11 k) ts)
 abbrev pub fullChecks : ℕ → File → List Entry
 fullChecks w s = each 11 (map (test11 (fileCacheIn w s)) (tasksOf s)) (Of (Fault11 (fileCache s)) [] (tasksOf s)) ∷ []
 
--- "Table checks 1 to 11."; document 02, Point 5: "10 is never given any more"
+-- "Table checks 1 to 11."; without 10 (document 02, Point 5)
 abbrev pub tableChecks : ℕ → File → Area → List ℕ → List Entry
 tableChecks w s area table = one 1 noTask (test1 w area table) (Fault1 w area table) ∷ (fileChecks s ++ fullChecks w s)
 

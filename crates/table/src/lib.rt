@@ -50,7 +50,8 @@ fn fill_table(
     requires { ⌜ (accepted (readingOf (now file)) ≡ true) × (shape ≡ fileShape (now file)) × Holds w shape × Width w × (tasks ≡ taskCount (now file))
         × (length (now area) ≡ areaLength w) × (length (now ends) ≡ 8 * (32 * w)) × (length (now table) ≡ 64) ⌝ }
     ensures { λ r. ⌜ (r ≡ pickFilling (firstFull (shaped w shape) 0 (tasksOf (now (file .entry)))))
-        × (now (table .exit) ≡ pickTable (firstFull (shaped w shape) 0 (tasksOf (now (file .entry)))) (now (table .entry)) (tableOf (now (file .entry))))
+        × (now (table .exit) ≡ pickTable (firstFull (shaped w shape) 0 (tasksOf (now (file .entry)))) (now (table .entry)) (tableOf
+        (now (file .entry))))
         × (length (now (area .exit)) ≡ areaLength w) ⌝ }
 {
     let mut counts = [0usize; 8];

@@ -67,8 +67,8 @@ fn task_numbers(
     false
 }
 
-// The pair numbers of each task of an accepted file, or the lowest task of which a block has too many states. A task's own number is 32 for a while,
-// which no row raises, so that the task is not met by its own end rows. Left open are the numbers after a refusal, and the area.
+// The pair numbers of each task of an accepted file, or the lowest task of which a block has too many states. A task's own number is 32 while its
+// numbers are found, which no row raises, so that the task is not met by its own end rows. Left open are the numbers after a refusal, and the area.
 pub fn find_numbers(
     file: &[u8],
     shape: CacheShape,

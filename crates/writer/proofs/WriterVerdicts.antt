@@ -67,6 +67,6 @@ module _ (n : ℕ) (s ls out : List ℕ) where
       go Passed e v = (v, sym (length-written n s ls out (all-passed n s ls out e .sum)))
       go (Failed c a) e v = v
 
-  -- "Writer checks 5, 6 .., 7 .., 8, 9, 10, 14."; document 02, Point 5: "so 10 is never given any more"
+  -- "Writer checks 5, 6 .., 7 .., 8, 9, 10, 14."; without 10 (document 02, Point 5)
   pub writer-order : numbers (writerChecks n s ls out) ≡ 5 ∷ 6 ∷ 7 ∷ 8 ∷ 9 ∷ 14 ∷ []
   writer-order = refl

@@ -1,156 +1,98 @@
--- `numbers::meet_row` meets its contract: after j turns the numbers of the tasks below j are what the row makes of them. Assumes nothing.
-use mathlib.Core.Path.{_≡_, sym, ap, _∙_}
-use mathlib.Core.List.{List}
-use Prim.Native.Nat.{ℕ, _+_, _*_, _-_, _≤_, _<_}
-use native.Mathlib.Omega.{arith}
+-- `numbers::meet_row` meets its contract: the useful sets are those of the live rows, and the numbers stay where none may be raised. Assumes nothing.
+use mathlib.Core.Path.{sym, _∙_}
 use borrow.Author.Needs.{needs}
-use lib.ListN.{length, getD, length-set}
-use Rattle.cache.specs.Sets.{bits}
+use lib.ListN.{length}
 use Rattle.rows.specs.Rows.{rowsOf}
-use Rattle.rows.proofs.Parts.{row-within}
-use Rattle.pairs.specs.Pairs.{someUses, rowMost, Met}
-use Rattle.pairs.proofs.ReplacedSets.{lent-long}
-use Rattle.pairs.proofs.Meeting.{held-at, lent-most, met-start, met-turn}
+use Rattle.pairs.proofs.UsefulSets.{lent-sets, lent-useful, met-as-is}
+use Rattle.pairs.proofs.Meeting.{met-same}
 use Rattle.pairs.proofs.numbers.meet_row.Statement.{statement}
 use Rattle.pairs.proofs.numbers.meet_row.Tie as tie
 
-abbrev Inv-loop : tie.InvT-loop
-Inv-loop row live lived ends counts unions tasks numbers₀ part held j₀ numbers j =
-    (j ≤ tasks) × (length numbers ≡ 8) × Met (rowMost row (rowsOf (length row) lived live)) (length row) ends counts j numbers₀ numbers
+used-requires : tie.Need-used-requires
+used-requires c κs = search needs
 
-abbrev μ-loop : tie.MeasureT-loop
-μ-loop row live lived ends counts unions tasks numbers₀ part held j₀ numbers j = tasks - j
+may-raise-some-requires : tie.Need-may-raise-some-requires
+may-raise-some-requires c κs = search needs
 
--- where the end rows of task j end
-inside : (c : tie.In-loop Inv-loop μ-loop) → let w = length (c .before .before .before .before .before .before .before .before .before .args .row .now) in
-    (32 * w * c .before .loop .j + 32 * w ≤ 8 * (32 * w)) × (w ≤ 32) × (c .before .loop .j < 8)
-inside c =
-    let start = c .before .before .before .before .before .before .before .before .before in
-    let below : c .before .loop .j < 8 = omega (arith, start .pre .0 .inside) in
-    (omega (arith, row-within (32 * length (start .args .row .now)) (c .before .loop .j) 8 below), start .pre .0 .width .narrow, below)
+slice-aggregate-useful-sets : tie.Need-slice-aggregate-useful-sets
+slice-aggregate-useful-sets c = search needs
 
-mul-part : tie.Need-mul-part Inv-loop μ-loop
-mul-part c = omega (arith, c .before .before .before .before .before .before .pre .0 .width .narrow)
+slice-aggregate-useful-sets-2 : tie.Need-slice-aggregate-useful-sets-2
+slice-aggregate-useful-sets-2 c = search needs
 
-used-requires : tie.Need-used-requires Inv-loop μ-loop
-used-requires c κs = let start = c .before .before .before .before .before .before in (start .pre .0 .width .chunks, start .pre .0 .width .narrow)
+useful-sets-requires : tie.Need-useful-sets-requires
+useful-sets-requires c κs = search needs
 
-loop-holds : tie.Need-loop-holds Inv-loop μ-loop
-loop-holds c =
-    let start = c .before .before .before .before .before .before .before in
-    let args = start .args in
-    let w = length (args .row .now) in
-    (omega arith, start .pre .3, met-start w (args .ends .now) (args .counts .now) (rowMost (args .row .now) (rowsOf w (args .lived) (args .live .now))) (args .numbers .now))
+sub-meet-sets : tie.Need-sub-meet-sets
+sub-meet-sets c = search needs
 
-mul-at : tie.Need-mul-at Inv-loop μ-loop
-mul-at c = omega (arith, inside c)
+part-meet-sets-start : tie.Need-part-meet-sets-start
+part-meet-sets-start c = search needs
 
-mul-raised-by-row : tie.Need-mul-raised-by-row Inv-loop μ-loop
-mul-raised-by-row c = omega (arith, inside c)
+part-meet-sets-end : tie.Need-part-meet-sets-end
+part-meet-sets-end c = search needs
 
-slice-read-raised-by-row : tie.Need-slice-read-raised-by-row Inv-loop μ-loop
-slice-read-raised-by-row c = omega (arith, inside (c .before))
+sub-meet-sets-2 : tie.Need-sub-meet-sets-2
+sub-meet-sets-2 c = search needs
 
-add-raised-by-row : tie.Need-add-raised-by-row Inv-loop μ-loop
-add-raised-by-row c = omega (arith, inside (c .before))
+part-meet-sets-start-2 : tie.Need-part-meet-sets-start-2
+part-meet-sets-start-2 c = search needs
 
-mul-raised-by-row-2 : tie.Need-mul-raised-by-row-2 Inv-loop μ-loop
-mul-raised-by-row-2 c = omega (arith, inside (c .before))
+part-meet-sets-end-2 : tie.Need-part-meet-sets-end-2
+part-meet-sets-end-2 c = search needs
 
-sub-raised-by-row : tie.Need-sub-raised-by-row Inv-loop μ-loop
-sub-raised-by-row c = search needs
-
-part-raised-by-row-start : tie.Need-part-raised-by-row-start Inv-loop μ-loop
-part-raised-by-row-start c = search needs
-
-part-raised-by-row-end : tie.Need-part-raised-by-row-end Inv-loop μ-loop
-part-raised-by-row-end c = omega (arith, inside (c .before), c .before .before .before .before .before .before .before .before .before .before .pre .0 .long)
-
-mul-raised-by-row-3 : tie.Need-mul-raised-by-row-3 Inv-loop μ-loop
-mul-raised-by-row-3 c = omega (arith, inside (c .before .before))
-
-shared-slice-read-raised-by-row : tie.Need-shared-slice-read-raised-by-row Inv-loop μ-loop
-shared-slice-read-raised-by-row c = omega (arith, inside (c .before .before .before), c .before .before .before .before .before .before .before .before .before .before .before .before .pre .0 .many)
-
-mul-raised-by-row-4 : tie.Need-mul-raised-by-row-4 Inv-loop μ-loop
-mul-raised-by-row-4 c = omega (arith, inside (c .before .before .before))
-
-shared-slice-read-raised-by-row-2 : tie.Need-shared-slice-read-raised-by-row-2 Inv-loop μ-loop
-shared-slice-read-raised-by-row-2 c = omega (arith, inside (c .before .before .before .before), c .before .before .before .before .before .before .before .before .before .before .before .before .before .pre .0 .each)
-
-raised-by-row-requires : tie.Need-raised-by-row-requires Inv-loop μ-loop
-raised-by-row-requires c κs =
-    let start = c .before .before .before .before .before .before .before .before .before .before .before .before .before in
-    let args = start .args in
-    let w = length (args .row .now) in
-    let j = c .before .before .before .before .before .loop .j in
-    let below = inside (c .before .before .before .before) .2 in (
-      start .pre .0 .width,
-      c .before .before .before .before .before .before .used .ensures,
-      start .pre .1,
-      start .pre .2,
-      lent-long (32 * w) j 8 (args .ends .now) below (start .pre .0 .long),
-      start .pre .0 .few j below,
-      start .pre .0 .joined j below ∙ ap (λ (fs : List (List ℕ)). bits w (someUses fs)) (sym (held-at w (args .ends .now) (args .counts .now) j)),
+meet-sets-requires : tie.Need-meet-sets-requires
+meet-sets-requires c κs =
+    let start = c .before .before .before .before .before .before .before .before .before .before .before .before .before .before .before .before .before .before .before .before in
+    let row = start .args .row .now in
+    let made = c .before .before .before .before .before .before .before .useful-sets in
+    let ls = rowsOf (length row) (start .args .lived) (start .args .live .now) in (
+      start .pre .0,
+      c .before .before .before .before .before .before .before .before .before .before .before .before .before .used .ensures,
+      lent-sets row ls (start .args .lived) (made .last .1 .1 .1 .0) (made .ensures .1) (made .last .1 .1 .1 .1 .0) (made .ensures .4),
+      start .pre .3,
     )
 
-mul-numbers : tie.Need-mul-numbers Inv-loop μ-loop
-mul-numbers c = omega (arith, inside (c .before .before .before .before .before))
-
-slice-write-numbers : tie.Need-slice-write-numbers Inv-loop μ-loop
-slice-write-numbers c = omega (arith, inside (c .before .before .before .before .before))
-
-add-j : tie.Need-add-j Inv-loop μ-loop
-add-j c = search needs
-
-loop-less : tie.Need-loop-less Inv-loop μ-loop
-loop-less c = search needs
-
-loop-again : tie.Need-loop-again Inv-loop μ-loop
-loop-again c =
-    let args = c .before .before .before .before .before .before .before .before .before .before .before .before .before .before .args in
-    let at = c .before .before .before .before .before .before .loop in
-    let w = length (args .row .now) in
-    let below : at .j < length (at .numbers) = omega (arith, inside (c .before .before .before .before .before)) in
-    let most = rowMost (args .row .now) (rowsOf w (args .lived) (args .live .now)) in
-    let is = lent-most w (args .ends .now) (args .counts .now) most (at .j) (getD (at .numbers) (at .j) 0) (c .raised-by-row .ensures) in
-    (omega arith, simp length-set (omega arith), met-turn w (args .ends .now) (args .counts .now) most (at .j) (args .numbers .now) (at .numbers) (at .inv .2) below is)
-
-same-length : tie.Need-same-length Inv-loop μ-loop
+same-length : tie.Need-same-length
 same-length c = search needs
 
-returns : tie.Need-returns Inv-loop μ-loop
+returns : tie.Need-returns
 returns c =
-    let at = c .before .loop in
-    let end : at .j ≡ c .before .before .before .before .before .before .before .before .before .args .tasks = omega arith in
-    rw (← end) (at .inv .2)
+    let args = c .before .before .before .before .before .before .before .before .before .before .before .before .before .before .before .before .before .before .before .before .before .before .before .args in
+    let row = args .row .now in
+    let made = c .before .before .before .before .before .before .before .before .before .before .useful-sets in
+    let ls = rowsOf (length row) (args .lived) (args .live .now) in
+    met-same (length row) (args .ends .now) (args .counts .now) (args .tasks)
+    (lent-useful row ls (args .lived) (made .last .1 .1 .1 .0) (made .ensures .1)) (c .before .before .meet-sets .ensures)
+
+same-length-2 : tie.Need-same-length-2
+same-length-2 c = search needs
+
+returns-2 : tie.Need-returns-2
+returns-2 c =
+    let start = c .before .before .before .before .before .before .before .before .before .before in
+    let args = start .args in
+    let row = args .row .now in
+    met-as-is row (args .ends .now) (args .counts .now) (args .unions .now) (args .numbers .now) (rowsOf (length row) (args .lived) (args .live .now)) (args .tasks)
+    (start .pre .0) (c .before .before .before .used .ensures) (sym (c .before .may-raise-some .ensures) ∙ c .if1 .left)
 
 pub meet-row-spec : {M : Type 1} → statement M
 meet-row-spec =
     tie.close
     (tie.spec
-    Inv-loop
-    μ-loop
-    mul-part
     used-requires
-    loop-holds
-    mul-at
-    mul-raised-by-row
-    slice-read-raised-by-row
-    add-raised-by-row
-    mul-raised-by-row-2
-    sub-raised-by-row
-    part-raised-by-row-start
-    part-raised-by-row-end
-    mul-raised-by-row-3
-    shared-slice-read-raised-by-row
-    mul-raised-by-row-4
-    shared-slice-read-raised-by-row-2
-    raised-by-row-requires
-    mul-numbers
-    slice-write-numbers
-    add-j
-    loop-less
-    loop-again
+    may-raise-some-requires
+    slice-aggregate-useful-sets
+    slice-aggregate-useful-sets-2
+    useful-sets-requires
+    sub-meet-sets
+    part-meet-sets-start
+    part-meet-sets-end
+    sub-meet-sets-2
+    part-meet-sets-start-2
+    part-meet-sets-end-2
+    meet-sets-requires
     same-length
-    returns)
+    returns
+    same-length-2
+    returns-2)

@@ -1,30 +1,35 @@
 -- `numbers::raised_by_row` meets its contract: the number stays where the row, or what the end rows replace, has too few cache blocks to raise it, and
--- is else raised by each live row. Assumes nothing.
-use mathlib.Core.Path.{_∙_}
+-- is else raised by each useful set. Assumes nothing.
+use mathlib.Core.Path.{_≡_, ap, _∙_}
 use mathlib.Core.List.{List}
-use Prim.Native.Nat.{ℕ}
+use Prim.Native.Nat.{ℕ, max}
 use borrow.Author.Needs.{needs}
 use lib.ListN.{length}
 use Rattle.rows.specs.Rows.{rowsOf}
 use Rattle.rows.proofs.Parts.{lent-first}
-use Rattle.pairs.proofs.ReplacedSets.{stays-used, stays-replaced, part-covered, part-most}
+use Rattle.pairs.specs.Pairs.{setsMost, rowMost, usefulMost}
+use Rattle.pairs.proofs.ReplacedSets.{stays-used, stays-replaced}
+use Rattle.pairs.proofs.UsefulSets.{useful-most, sizes-ones, part-bounded}
 use Rattle.pairs.proofs.numbers.raised_by_row.Statement.{statement}
 use Rattle.pairs.proofs.numbers.raised_by_row.Tie as tie
 
--- the live rows and the end rows
-abbrev lives : (c : tie.Start) → List (List ℕ)
-lives c = rowsOf (length (c .args .row .now)) (c .args .lived) (c .args .live .now)
-
+-- the end rows
 abbrev ends : (c : tie.Start) → List (List ℕ)
 ends c = rowsOf (length (c .args .row .now)) (c .args .count) (c .args .ends .now)
+
+-- the most over the live rows is that over the useful sets
+same : (c : tie.Start) → max (c .args .number) (rowMost (c .args .row .now) (c .pre .2 .lives) (ends c))
+    ≡ max (c .args .number) (usefulMost (c .args .row .now) (c .args .useful .now) (ends c))
+same c = ap (max (c .args .number)) (useful-most (c .args .row .now) (c .args .useful .now) (c .args .sizes .now) (c .pre .2) (ends c))
 
 common-requires : tie.Need-common-requires
 common-requires c κs = search needs
 
 returns : tie.Need-returns
 returns c =
-    let start = c .before .before .before .before .before in
-    stays-used (start .args .row .now) (lives start) (ends start) (start .args .number) (start .pre .1) (c .if1 .taken) (c .before .common .ensures) (start .pre .6)
+    let start = c .before .before .before .before .before .before in
+    stays-used (start .args .row .now) (start .pre .2 .lives) (ends start) (start .args .number) (start .pre .1) (c .if1 .taken) (c .before .common .ensures) (start .pre .5)
+    ∙ same start
 
 slice-aggregate-replaced-sets : tie.Need-slice-aggregate-replaced-sets
 slice-aggregate-replaced-sets c = search needs
@@ -37,32 +42,36 @@ common-requires-2 c κs = search needs
 
 returns-2 : tie.Need-returns-2
 returns-2 c =
-    let start = c .before .before .before .before .before .before .before .before .before .before in
-    stays-replaced (start .args .row .now) (lives start) (ends start) (start .args .number) (start .pre .1) (c .if2 .taken) (c .before .common2 .ensures)
+    let start = c .before .before .before .before .before .before .before .before .before .before .before in
+    stays-replaced (start .args .row .now) (start .pre .2 .lives) (ends start) (start .args .number) (start .pre .1) (c .if2 .taken) (c .before .common2 .ensures)
     (c .before .before .before .replaced-sets .ensures .3)
+    ∙ same start
 
-sub-raised-by-live : tie.Need-sub-raised-by-live
-sub-raised-by-live c = search needs
+sub-raised-by-sets : tie.Need-sub-raised-by-sets
+sub-raised-by-sets c = search needs
 
-part-raised-by-live-start : tie.Need-part-raised-by-live-start
-part-raised-by-live-start c = search needs
+part-raised-by-sets-start : tie.Need-part-raised-by-sets-start
+part-raised-by-sets-start c = search needs
 
-part-raised-by-live-end : tie.Need-part-raised-by-live-end
-part-raised-by-live-end c = search needs
+part-raised-by-sets-end : tie.Need-part-raised-by-sets-end
+part-raised-by-sets-end c = search needs
 
-raised-by-live-requires : tie.Need-raised-by-live-requires
-raised-by-live-requires c κs =
-    let start = c .before .before .before .before .before .before .before .before .before .before .before .before in
+raised-by-sets-requires : tie.Need-raised-by-sets-requires
+raised-by-sets-requires c κs =
+    let start = c .before .before .before .before .before .before .before .before .before .before .before .before .before in
     let found = c .before .before .before .before .before .replaced-sets in
     let part = lent-first (start .args .count) (found .last .1 .1 .1 .0) ∙ found .ensures .1 in
-    (start .pre .0, start .pre .2, start .pre .3, part-covered (start .args .row .now) (lives start) (ends start) part (found .ensures .3))
+    let row = start .args .row .now in
+    let us = start .args .useful .now in
+    let sizes = start .args .sizes .now in
+    (sizes-ones row us sizes (start .pre .2), part-bounded row us sizes (start .pre .2) (ends start) part (found .ensures .3))
 
 returns-3 : tie.Need-returns-3
 returns-3 c =
-    let start = c .before .before .before .before .before .before .before .before .before .before .before .before .before in
+    let start = c .before .before .before .before .before .before .before .before .before .before .before .before .before .before in
     let found = c .before .before .before .before .before .before .replaced-sets in
     let part = lent-first (start .args .count) (found .last .1 .1 .1 .0) ∙ found .ensures .1 in
-    part-most (start .args .row .now) (lives start) (ends start) part (start .args .number) (c .raised-by-live .ensures)
+    c .raised-by-sets .ensures ∙ ap (λ (vs : List ℕ). max (start .args .number) (setsMost (start .args .useful .now) vs)) part
 
 pub raised-by-row-spec : {M : Type 1} → statement M
 raised-by-row-spec =
@@ -74,8 +83,8 @@ raised-by-row-spec =
     replaced-sets-requires
     common-requires-2
     returns-2
-    sub-raised-by-live
-    part-raised-by-live-start
-    part-raised-by-live-end
-    raised-by-live-requires
+    sub-raised-by-sets
+    part-raised-by-sets-start
+    part-raised-by-sets-end
+    raised-by-sets-requires
     returns-3)

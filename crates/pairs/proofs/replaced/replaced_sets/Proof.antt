@@ -9,8 +9,8 @@ use Rattle.cache.specs.Sets.{replaces, bits}
 use Rattle.cache.proofs.Masks.{bits-none}
 use Rattle.rows.specs.Rows.{rowsOf}
 use Rattle.rows.proofs.Parts.{row-within}
-use Rattle.pairs.specs.Pairs.{replacedSets, someReplaces}
-use Rattle.pairs.proofs.ReplacedSets.{lent-long, replaced-more, union-more, after-new}
+use Rattle.pairs.specs.Pairs.{replacedSet, replacedSets, someReplaces}
+use Rattle.pairs.proofs.ReplacedSets.{lent-long, stored-more, union-more, after-new}
 use Rattle.pairs.proofs.replaced.replaced_sets.Statement.{statement}
 use Rattle.pairs.proofs.replaced.replaced_sets.Tie as tie
 
@@ -82,7 +82,7 @@ loop-again c =
     let is : c .replaced .result ≡ bits w (replaces f row) = c .replaced .ensures ∙ ap (λ (n : ℕ). bits n (replaces f row)) long in (
       omega arith,
       simp length-set (omega arith),
-      replaced-more row w (at .k) ends (at .sets) (omega arith) (at .inv .2) is,
+      stored-more (λ f. replacedSet f row) w (at .k) ends (at .sets) (omega arith) (at .inv .2) is,
       after-new (start .args .sets .now) (at .sets) (at .k) (c .replaced .result) (at .inv .3),
       union-more (λ f. replaces f row) w (at .k) ends (at .inv .4) is refl,
     )

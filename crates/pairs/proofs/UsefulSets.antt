@@ -1,0 +1,103 @@
+-- The useful sets of a reaching row: the most that they have in common with what end rows replace is the most over the live rows that they are made
+-- of, and what none of the tasks' unions can raise stays.
+use mathlib.Core.Path.{_≡_, refl, sym, ap, _∙_}
+use mathlib.Core.Bool.{Bool, true, false, true≢false}
+use mathlib.Core.List.{List, [], _∷_, map, map-map}
+use Prim.Native.Nat.{ℕ, zero, suc, _+_, _-_, _≤_, _<_, max}
+use native.Mathlib.Numerals.{add-one}
+use native.Mathlib.Omega.{arith}
+use lib.Dec.{eqb, ltb}
+use lib.ListN.{length, getD, take, drop}
+use lib.Bits.{bitAnd}
+use lib.Count.{ones}
+use borrow.Author.Tests.{eqb-true, eqb-false, ltb-false}
+use Rattle.cache.specs.Sets.{bits}
+use Rattle.model.specs.Lists.{best}
+use Rattle.model.proofs.Membership.{or-left, or-right}
+use Rattle.rows.proofs.Parts.{lent-first}
+use Rattle.pairs.specs.Pairs.{usedSet, usefulSet, usefulSets, usefulSizes, UsefulSets, replacedSets, someReplaces, mostCommon, NoMoreThanAll, rowMost, usefulMost, someUses, mayRaise, someBelow, mayRaiseSome, endsOf, EndRows, Met}
+use Rattle.pairs.proofs.ReplacedSets.{all-bounds, stays-used, stays-replaced}
+
+-- ---- the sets are made of some live rows
+
+best-map : (g : ℕ → ℕ) (f : List ℕ → ℕ) (ls : List (List ℕ)) → best (λ (l : List ℕ). g (f l)) ls ≡ best g (map f ls)
+best-map g f [] = refl
+best-map g f (l ∷ ls) = ap (max (g (f l))) (best-map g f ls)
+
+each-made : (P : ℕ → Type 0) (f : List ℕ → ℕ) → ((l : List ℕ) → P (f l)) → (ls : List (List ℕ)) (k : ℕ) → k < length (map f ls)
+    → P (getD (map f ls) k 0)
+each-made P f h [] k b = absurd (omega arith)
+each-made P f h (l ∷ ls) zero b = h l
+each-made P f h (l ∷ ls) (suc k) b = each-made P f h ls k (omega arith)
+
+pub size-at : (us : List ℕ) (k : ℕ) → k < length us → getD (map ones us) k 0 ≡ ones (getD us k 0)
+size-at [] k h = absurd (omega arith)
+size-at (u ∷ us) zero h = refl
+size-at (u ∷ us) (suc k) h = size-at us k (omega arith)
+
+row-useful : (r : List ℕ) (ls fs : List (List ℕ)) → rowMost r ls fs ≡ usefulMost r (usefulSets r ls) fs
+row-useful r ls fs = best-map (λ (u : ℕ). mostCommon u (replacedSets r fs)) (λ (l : List ℕ). usefulSet r l) ls
+
+module _ (r us sizes : List ℕ) (is : UsefulSets r us sizes) where
+  pub useful-most : (fs : List (List ℕ)) → rowMost r (is .lives) fs ≡ usefulMost r us fs
+  useful-most fs = row-useful r (is .lives) fs ∙ ap (λ (x : List ℕ). usefulMost r x fs) (sym (is .sets))
+
+  pub sizes-ones : sizes ≡ map ones us
+  sizes-ones = is .sized ∙ sym (map-map ones (λ (l : List ℕ). usefulSet r l) (is .lives)) ∙ ap (map ones) (sym (is .sets))
+
+  -- the first of the replaced sets were lent as a part, and all is their union
+  pub part-bounded : (fs : List (List ℕ)) {part : List ℕ} {all : ℕ} → part ≡ replacedSets r fs → all ≡ bits (length r) (someReplaces fs r) → NoMoreThanAll us part all
+  part-bounded fs e d =
+      rw (e, d, is .sets)
+      (each-made (λ u. mostCommon u (replacedSets r fs) ≤ ones (bitAnd u (bits (length r) (someReplaces fs r)))) (λ (l : List ℕ). usefulSet r l)
+      (all-bounds r fs) (is .lives))
+
+-- the first n of the sets and of the sizes were lent as parts
+module _ (r : List ℕ) (ls : List (List ℕ)) (n : ℕ) (sets : List ℕ) (e : take n sets ≡ usefulSets r ls) where
+  pub lent-sets : (sizes : List ℕ) → take n sizes ≡ usefulSizes r ls → UsefulSets r (take (n - 0) (drop 0 sets)) (take (n - 0) (drop 0 sizes))
+  lent-sets sizes d = record { lives = ls; sets = lent-first n sets ∙ e; sized = lent-first n sizes ∙ d }
+
+  pub lent-useful : (fs : List (List ℕ)) → rowMost r ls fs ≡ usefulMost r (take (n - 0) (drop 0 sets)) fs
+  lent-useful fs = row-useful r ls fs ∙ ap (λ (us : List ℕ). usefulMost r us fs) (sym (lent-first n sets ∙ e))
+
+-- ---- whether a number may be raised
+
+module _ (test : ℕ → Bool) where
+  pub some-more : (j : ℕ) → test j ≡ false → someBelow test j ≡ false → someBelow test (j + 1) ≡ false
+  some-more j h e = rw (add-one j, h, e)
+
+  pub some-here : (n j : ℕ) → j < n → test j ≡ true → someBelow test n ≡ true
+  some-here zero j l h = absurd (omega arith)
+  some-here (suc n) j l h = go (eqb j n) refl (λ i. some-here n j i h)
+    where
+      go : (s : Bool) → eqb j n ≡ s → (j < n → someBelow test n ≡ true) → someBelow test (suc n) ≡ true
+      go true q ih = or-left (test n) (someBelow test n) (rw (eqb-true j n q) at h)
+      go false q ih = or-right (test n) (someBelow test n) (ih (omega (arith, eqb-false j n q)))
+
+  pub some-not : (n j : ℕ) → someBelow test n ≡ false → j < n → test j ≡ false
+  some-not n j e l = go (test j) refl
+    where
+      go : (s : Bool) → test j ≡ s → test j ≡ false
+      go true q = absurd (true≢false (sym (some-here n j l q) ∙ e))
+      go false q = q
+
+-- what may not raise a number leaves it
+stays : (row : List ℕ) (ls fs : List (List ℕ)) (number : ℕ) {held joined : ℕ} → held ≡ usedSet row → joined ≡ bits (length row) (someUses fs)
+    → mayRaise row held joined number fs ≡ false → number ≡ max number (rowMost row ls fs)
+stays row ls fs number {held} {joined} is union e = go (ltb number (ones (bitAnd held joined))) refl
+  where
+    go : (s : Bool) → ltb number (ones (bitAnd held joined)) ≡ s → number ≡ max number (rowMost row ls fs)
+    go false q = stays-used row ls fs number is (ltb-false number (ones (bitAnd held joined)) q) refl union
+    go true q =
+        let all = bits (length row) (someReplaces fs row) in
+        stays-replaced row ls fs number is (ltb-false number (ones (bitAnd held all)) (rw q at e)) refl refl
+
+-- where none may be raised, the numbers are met as they are
+pub met-as-is : (row ends counts unions numbers : List ℕ) (ls : List (List ℕ)) (tasks : ℕ) {held : ℕ} → EndRows (length row) ends counts unions tasks → held ≡ usedSet row
+    → mayRaiseSome row held ends counts unions numbers tasks ≡ false → Met (rowMost row ls) (length row) ends counts tasks numbers numbers
+met-as-is row ends counts unions numbers ls tasks {held} rows is e =
+    record {
+      long = refl;
+      each = λ j h. stays row ls (endsOf (length row) ends counts j) (getD numbers j 0) is (rows .joined j (omega (arith, rows .inside))) (some-not _ tasks j e h);
+      rest = λ j h. refl;
+    }
