@@ -203,6 +203,29 @@ pub fn long_traces() -> Vec<u8> {
     file(16, &bodies)
 }
 
+/// The blocks of the largest file's task j, each filled up to 16 references by those to the cache blocks that no fork loads.
+fn full(n: usize, j: usize) -> Vec<Block> {
+    let mut blocks = forks(n, j, 5, 6);
+    let others: Vec<u16> = blocks[0].1[5..].to_vec();
+    for (b, (_, references)) in blocks.iter_mut().enumerate() {
+        let filling = (0..16 - references.len()).map(|x| others[(7 * x + b) % others.len()]);
+        *references = filling.chain(references.clone()).collect();
+    }
+    blocks
+}
+
+/// Eight tasks of 24 blocks, 16 cache blocks, 32 states a block in the loop, and 16 references in each block.
+pub fn full_blocks() -> Vec<u8> {
+    let bodies: Vec<Vec<u8>> = (0..8).map(|j| body(&full(16, j))).collect();
+    file(16, &bodies)
+}
+
+/// The same with a library in six of the 16 cache blocks.
+pub fn full_blocks_library() -> Vec<u8> {
+    let bodies: Vec<Vec<u8>> = (0..8).map(|j| body(&linked(16, 6, full(16, j)))).collect();
+    file(16, &bodies)
+}
+
 /// The largest file with the end block of task 0 masked.
 fn largest_masked() -> Vec<u8> {
     let bodies: Vec<Vec<u8>> = (0..8).map(|j| masked_body(&forks(16, j, 5, 6), |b| j == 0 && b == 23)).collect();
@@ -262,25 +285,27 @@ fn path(forks: usize, chain: usize, most: usize) -> Vec<u16> {
     blocks.iter().map(|&b| b as u16).collect()
 }
 
-/// A sheet of task 0 and some preemptions, each a point, a task and a path.
-fn sheet(path: &[u16], preemptions: &[(usize, usize, Vec<u16>)]) -> Vec<u16> {
+/// A sheet of task 0 and some preemptions, each a position, the references done, a task and a path.
+fn sheet(path: &[u16], preemptions: &[(usize, usize, usize, Vec<u16>)]) -> Vec<u16> {
     let mut numbers = vec![0, path.len() as u16];
     numbers.extend(path);
     numbers.push(preemptions.len() as u16);
-    for (point, task, other) in preemptions {
-        numbers.extend([*point as u16, *task as u16, other.len() as u16]);
+    for (position, done, task, other) in preemptions {
+        numbers.extend([*position as u16, *done as u16, *task as u16, other.len() as u16]);
         numbers.extend(other);
     }
     numbers
 }
 
-/// The sheet of the longest path of task 0 with 16 preemptions, spread over the path, by the other tasks in turn.
-fn full_sheet(tasks: usize, path_of: impl Fn(usize) -> Vec<u16>) -> Vec<u16> {
+/// The sheet of the longest path of task 0, of these blocks, with 16 preemptions, spread over the path, by the other tasks in turn; each comes
+/// in the middle of its block.
+fn full_sheet(tasks: usize, blocks: &[Block], path_of: impl Fn(usize) -> Vec<u16>) -> Vec<u16> {
     let own = path_of(0);
-    let preemptions: Vec<(usize, usize, Vec<u16>)> = (0..16)
+    let preemptions: Vec<(usize, usize, usize, Vec<u16>)> = (0..16)
         .map(|k| {
-            let task = 1 + k % (tasks - 1);
-            (k * own.len() / 16, task, path_of(task))
+            let (position, task) = (k * own.len() / 16, 1 + k % (tasks - 1));
+            let (_, references) = &blocks[own[position] as usize];
+            (position, references.len().div_ceil(2), task, path_of(task))
         })
         .collect();
     sheet(&own, &preemptions)
@@ -288,26 +313,31 @@ fn full_sheet(tasks: usize, path_of: impl Fn(usize) -> Vec<u16>) -> Vec<u16> {
 
 /// For the tiny file: two blocks and one preemption.
 pub fn tiny_sheet() -> Vec<u16> {
-    sheet(&[0, 0], &[(0, 1, vec![0, 1])])
+    sheet(&[0, 0], &[(0, 2, 1, vec![0, 1])])
 }
 
 /// For the typical file, and for the files that are refused early.
 pub fn typical_sheet() -> Vec<u16> {
-    full_sheet(4, |j| path(2 + j % 2, 2, 64))
+    full_sheet(4, &forks(8, 0, 2, 2), |j| path(2 + j % 2, 2, 64))
 }
 
 /// For the largest file.
 pub fn largest_sheet() -> Vec<u16> {
-    full_sheet(8, |_| path(5, 6, 64))
+    full_sheet(8, &forks(16, 0, 5, 6), |_| path(5, 6, 64))
 }
 
 /// For the largest file, with as many rounds as 1,536 blocks allow.
 pub fn longest_sheet() -> Vec<u16> {
-    full_sheet(8, |_| path(5, 6, 1536))
+    full_sheet(8, &forks(16, 0, 5, 6), |_| path(5, 6, 1536))
+}
+
+/// For the file of full blocks.
+pub fn full_blocks_sheet() -> Vec<u16> {
+    full_sheet(8, &full(16, 0), |_| path(5, 6, 64))
 }
 
 /// Files of the largest kind with a sheet each: one with a number too many, which fails check 12, one whose last path doesn't end in the
-/// end block, which fails check 13, and one whose last preemption comes after a masked end block, which fails check 16.
+/// end block, which fails check 13, and one whose last preemption comes in a masked end block, which fails check 16.
 pub fn refused_sheets() -> Vec<(Vec<u8>, Vec<u16>)> {
     let mut long = largest_sheet();
     long.push(0);
@@ -316,8 +346,9 @@ pub fn refused_sheets() -> Vec<(Vec<u8>, Vec<u16>)> {
     broken[last] = 1;
     let mut late = largest_sheet();
     let length = late[1] as usize;
-    let last_point = late.len() - length - 3;
-    late[last_point] = length as u16 - 1;
+    let last_position = late.len() - length - 4;
+    late[last_position] = length as u16 - 1;
+    late[last_position + 1] = 1;
     vec![(largest(), long), (largest(), broken), (largest_masked(), late)]
 }
 

@@ -84,6 +84,8 @@ fn file_classes() -> Vec<(String, Vec<u8>)> {
         ("many ends".to_string(), files::many_ends()),
         ("varied".to_string(), files::varied()),
         ("long traces".to_string(), files::long_traces()),
+        ("full blocks".to_string(), files::full_blocks()),
+        ("full, library".to_string(), files::full_blocks_library()),
         ("refused by 11".to_string(), files::refused_states()),
     ];
     classes.extend(refused_by(&FILE_CHECKS).zip(files::refused_early()));
@@ -137,6 +139,7 @@ fn replay_classes() -> Vec<(String, Replayed)> {
         ("typical".to_string(), (files::typical(), files::typical_sheet())),
         ("largest".to_string(), (files::largest(), files::largest_sheet())),
         ("longest paths".to_string(), (files::largest(), files::longest_sheet())),
+        ("full blocks".to_string(), (files::full_blocks(), files::full_blocks_sheet())),
     ];
     classes.extend(refused_by(&FILE_CHECKS).zip(early));
     classes.extend(refused_by(&SHEET_CHECKS).zip(files::refused_sheets()));
@@ -266,8 +269,9 @@ fn refused_as_meant() {
 /// The other inputs are accepted, the writer gives back the files that its parts are made from, masks and a library change the
 /// table, and the costliest runs reach the numbers of the table.
 fn accepted_as_meant() {
-    let files = [files::tiny(), files::typical(), files::largest(), files::largest()];
-    let sheets = [files::tiny_sheet(), files::typical_sheet(), files::largest_sheet(), files::longest_sheet()];
+    let files = [files::tiny(), files::typical(), files::largest(), files::largest(), files::full_blocks()];
+    let sheets =
+        [files::tiny_sheet(), files::typical_sheet(), files::largest_sheet(), files::longest_sheet(), files::full_blocks_sheet()];
     for (file, sheet) in files.iter().zip(&sheets) {
         let (without, with, lost) = plain::replay(file, sheet).unwrap();
         assert!(without < with && 0 < lost);
@@ -284,8 +288,17 @@ fn accepted_as_meant() {
     assert_ne!(table(&files::masked()), table(&files::typical()));
     assert_ne!(table(&files::typical_library()), table(&files::typical()));
     assert_ne!(table(&files::largest_library()), table(&files::largest()));
-    let shared = [files::typical_library(), files::largest_library(), files::many_ends()];
-    let own = [files::tiny(), files::typical(), files::masked(), files::largest(), files::varied(), files::long_traces()];
+    assert_ne!(table(&files::full_blocks_library()), table(&files::full_blocks()));
+    let shared = [files::typical_library(), files::largest_library(), files::many_ends(), files::full_blocks_library()];
+    let own = [
+        files::tiny(),
+        files::typical(),
+        files::masked(),
+        files::largest(),
+        files::varied(),
+        files::long_traces(),
+        files::full_blocks(),
+    ];
     for file in shared.into_iter().chain(own) {
         assert_eq!(plain_lost(&asked(file.clone())), Ok(table(&file)[files::last_task(&file)] as u32));
     }

@@ -26,19 +26,20 @@ static void print_blocks(const uint16_t *blocks, int count)
     printf("\n");
 }
 
-/* The path up to the preemption, the preempting path, and what is left of the path, which may be nothing. */
+/* The path up to the preemption, the preempting path, and what is left of the path after the block of the preemption. */
 static void print_preempted(int i, const uint16_t *path, int path_length, const uint16_t *preemption)
 {
-    int point = preemption[0];
+    int position = preemption[0];
+    int done = preemption[1];
+    int left = path_length - position - 1;
 
     printf("task %d runs blocks", i);
-    print_blocks(path, point + 1);
-    printf("at position %d, after block %d, task %d preempts it and runs blocks", point, path[point], preemption[1]);
-    print_blocks(preemption + 3, preemption[2]);
-    if (point + 1 < path_length) {
-        printf("task %d goes on with blocks", i);
-        print_blocks(path + point + 1, path_length - point - 1);
-    }
+    print_blocks(path, position + 1);
+    printf("at position %d, where %d reference%s of block %d %s done, task %d preempts it and runs blocks",
+           position, done, done == 1 ? "" : "s", path[position], done == 1 ? "is" : "are", preemption[2]);
+    print_blocks(preemption + 4, preemption[3]);
+    printf("task %d goes on in block %d%s", i, path[position], left > 0 ? " and with blocks" : "");
+    print_blocks(path + position + 1, left);
 }
 
 /* The sheet of the costliest run, which crpd_replay accepts. */

@@ -255,11 +255,11 @@ pub fn loops(masked: bool) -> Made {
     Made { n: 2, tasks: vec![vec![own], vec![block(&[0], &[2])]] }
 }
 
-/// A sheet of that file: `length` blocks, and `count` preemptions of `other` blocks each.
+/// A sheet of that file: `length` blocks, and `count` preemptions of `other` blocks each, after both references.
 pub fn loop_sheet(length: usize, count: usize, other: usize) -> Vec<u16> {
     let mut sheet = [vec![0, length as u16], vec![0; length], vec![count as u16]].concat();
     for k in 0..count {
-        sheet.extend([k.min(length - 1) as u16, 1, other as u16]);
+        sheet.extend([k.min(length - 1) as u16, 2, 1, other as u16]);
         sheet.extend(vec![0; other]);
     }
     sheet
@@ -442,24 +442,32 @@ fn path(random: &mut Random, task: &Task) -> Vec<u16> {
     }
 }
 
-/// The positions of a path whose blocks are masked, and the others.
-fn positions(task: &Task, path: &[u16]) -> (Vec<u16>, Vec<u16>) {
-    (0..path.len() as u16).partition(|&position| task[path[position as usize] as usize].masked)
+/// A position in a path, and how many references of the block there are done.
+type Point = (u16, u16);
+
+/// The points of a path in masked blocks, and the others.
+fn points(task: &Task, path: &[u16]) -> (Vec<Point>, Vec<Point>) {
+    let block = |position: u16| &task[path[position as usize] as usize];
+    let all = (0..path.len() as u16).flat_map(|position| {
+        let count = block(position).references.len() as u16;
+        (count.min(1)..=count).map(move |done| (position, done))
+    });
+    all.partition(|&(position, _)| block(position).masked)
 }
 
 /// The sheet of a path of task p with a preemption at each of these points, and the preempting task of each.
 fn preempted(
-    random: &mut Random, tasks: &[Task], p: usize, own: &[u16], mut points: Vec<u16>,
+    random: &mut Random, tasks: &[Task], p: usize, own: &[u16], mut points: Vec<Point>,
 ) -> (Vec<u16>, Vec<usize>) {
     points.sort();
     let mut sheet = vec![p as u16, own.len() as u16];
     sheet.extend(own);
     sheet.push(points.len() as u16);
     let mut preempting = Vec::new();
-    for point in points {
+    for (position, done) in points {
         let j = (p + 1 + random.below(tasks.len() - 1)) % tasks.len();
         let blocks = path(random, &tasks[j]);
-        sheet.extend([point, j as u16, blocks.len() as u16]);
+        sheet.extend([position, done, j as u16, blocks.len() as u16]);
         sheet.extend(blocks);
         preempting.push(j);
     }
@@ -470,26 +478,26 @@ fn preempted(
 pub fn sheet(random: &mut Random, tasks: &[Task]) -> (Vec<u16>, Vec<usize>) {
     let p = random.below(tasks.len());
     let own = path(random, &tasks[p]);
-    let (_, unmasked) = positions(&tasks[p], &own);
+    let (_, unmasked) = points(&tasks[p], &own);
     let count = if tasks.len() == 1 || unmasked.is_empty() { 0 } else { random.below(17) };
-    let points = (0..count).map(|_| random.pick(&unmasked)).collect();
-    preempted(random, tasks, p, &own, points)
+    let chosen = (0..count).map(|_| random.pick(&unmasked)).collect();
+    preempted(random, tasks, p, &own, chosen)
 }
 
-/// A run sheet that is right but for a preemption after a masked block, or several; none where the path that is drawn
+/// A run sheet that is right but for a preemption in a masked block, or several; none where the path that is drawn
 /// passes no masked block or there is no other task.
 pub fn masked_sheet(random: &mut Random, tasks: &[Task]) -> Option<Vec<u16>> {
     let p = random.below(tasks.len());
     let own = path(random, &tasks[p]);
-    let (masked, unmasked) = positions(&tasks[p], &own);
+    let (masked, unmasked) = points(&tasks[p], &own);
     if tasks.len() == 1 || masked.is_empty() {
         return None;
     }
-    let mut points = vec![random.pick(&masked)];
-    // the others come anywhere, or after unmasked blocks alone
+    let mut chosen = vec![random.pick(&masked)];
+    // the others come anywhere, or in unmasked blocks alone
     let others = if unmasked.is_empty() || random.one_in(2) { [masked, unmasked].concat() } else { unmasked };
-    points.extend((0..random.below(16)).map(|_| random.pick(&others)));
-    Some(preempted(random, tasks, p, &own, points).0)
+    chosen.extend((0..random.below(16)).map(|_| random.pick(&others)));
+    Some(preempted(random, tasks, p, &own, chosen).0)
 }
 
 /// The sheet with one fault, and the check that is at fault.
@@ -525,18 +533,30 @@ fn damaged_preemption(random: &mut Random, tasks: &[Task], sheet: &[u16]) -> (Ve
     let mut broken = sheet.to_vec();
     let length = sheet[1] as usize;
     let first = 3 + length;
-    let second = first + 3 + sheet[first + 2] as usize;
-    let (place, number, check) = match random.below(6) {
+    let second = first + 4 + sheet[first + 3] as usize;
+    let references = |at: usize| tasks[sheet[0] as usize][sheet[2 + sheet[at] as usize] as usize].references.len() as u16;
+    let (place, number, check) = match random.below(9) {
         0 => (first, random.pick(&[length as u16, 1536, 65535]), 12),
-        1 => (first + 1, sheet[0], 12),
-        2 => (first + 1, random.pick(&[tasks.len() as u16, 8, 65535]), 12),
-        3 => (first + 2, random.pick(&[0, 1537, 65535]), 12),
+        1 => (first + 2, sheet[0], 12),
+        2 => (first + 2, random.pick(&[tasks.len() as u16, 8, 65535]), 12),
+        3 => (first + 3, random.pick(&[0, 1537, 65535]), 12),
         4 if second < sheet.len() && sheet[second] > 0 => {
-            // a point below the one before it
+            // a position below the one before it
             broken[first] = sheet[second];
             (second, sheet[second] - 1, 12)
         }
-        _ => (first + 3, random.pick(&[1, 24, 256, 65535]), 13),
+        5 if second < sheet.len() => {
+            // the same position, and fewer references done, of which both numbers may be wrong
+            broken[second] = sheet[first];
+            broken[second + 1] = random.below(40) as u16;
+            (first + 1, broken[second + 1] + 1 + random.below(3) as u16, 12)
+        }
+        6 if second >= sheet.len() || sheet[second] > sheet[first] => {
+            // too many references done, which a later position may follow
+            (first + 1, random.pick(&[references(first) + 1, 255, 65535]), 13)
+        }
+        7 if references(first) > 0 => (first + 1, 0, 13),
+        _ => (first + 4, random.pick(&[1, 24, 256, 65535]), 13),
     };
     broken[place] = number;
     (broken, check)

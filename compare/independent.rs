@@ -1,4 +1,4 @@
-//! Document 01 with Points 1 to 3 and 5 of document 02 once more, in plain Rust: by paths, and with sets of rows. Written from
+//! Document 01 with Points 1 to 3, 5 and 6 of document 02 once more, in plain Rust: by paths, and with sets of rows. Written from
 //! the documents alone, to compare with.
 use std::collections::BTreeSet;
 
@@ -6,8 +6,12 @@ pub const AREA: usize = 24832;
 const NOTHING: u16 = 65535;
 const LIVE: usize = 12288;
 const COUNTS: usize = 24576;
+/// The most states of either kind that a block may have: check 11.
+const MOST_STATES: usize = 32;
 /// The most blocks of a path of a sheet.
 const LONGEST_PATH: u16 = 1536;
+/// The least length of the sheet of the costliest run.
+pub const COSTLIEST_SHEET: usize = 2311;
 
 /// The check that fails first, and the task that it names.
 pub type Refusal = (u8, u8);
@@ -15,7 +19,7 @@ pub type Row = [u16; 16];
 
 #[derive(Clone)]
 pub struct Block {
-    /// No preemption comes after it.
+    /// No preemption comes in it.
     pub masked: bool,
     pub successors: Vec<usize>,
     pub references: Vec<u16>,
@@ -154,15 +158,15 @@ pub fn body(file: &[u8], task: usize) -> (usize, usize) {
     read(file).ok().and_then(|project| project.places.get(task).copied()).unwrap_or((0, 0))
 }
 
-/// All pairs of a block and a row that come from `first` by `steps`; none where a block has 33 rows.
+/// All pairs of a block and a row that come from `first` by `steps`; none where a block has more than `most` rows.
 fn explore(
-    blocks: usize, first: (usize, Row), steps: impl Fn(usize, &Row) -> Vec<(usize, Row)>,
+    blocks: usize, most: usize, first: (usize, Row), steps: impl Fn(usize, &Row) -> Vec<(usize, Row)>,
 ) -> Option<Vec<BTreeSet<Row>>> {
     let mut rows = vec![BTreeSet::new(); blocks];
     let mut left = vec![first];
     while let Some((block, row)) = left.pop() {
         if rows[block].insert(row) {
-            if rows[block].len() > 32 {
+            if rows[block].len() > most {
                 return None;
             }
             left.extend(steps(block, &row));
@@ -171,8 +175,8 @@ fn explore(
     Some(rows)
 }
 
-/// The states of a task; none by check 11.
-pub fn states(task: &Task, n: usize) -> Option<States> {
+/// The states of a task; none where a block has more than `most` of a kind.
+fn states(task: &Task, n: usize, most: usize) -> Option<States> {
     // a later reference replaces an earlier one
     let forward = |block: usize, row: &Row| {
         let mut after = *row;
@@ -190,10 +194,10 @@ pub fn states(task: &Task, n: usize) -> Option<States> {
         first
     };
     let empty = [NOTHING; 16];
-    let reaching = explore(task.len(), (0, forward(0, &empty)), |block, row| {
+    let reaching = explore(task.len(), most, (0, forward(0, &empty)), |block, row| {
         task[block].successors.iter().map(|&next| (next, forward(next, row))).collect()
     })?;
-    let live = explore(task.len(), (task.len() - 1, empty), |block, row| {
+    let live = explore(task.len(), most, (task.len() - 1, empty), |block, row| {
         let first = backward(block, row);
         predecessors(task, block).into_iter().map(|before| (before, first)).collect()
     })?;
@@ -213,7 +217,7 @@ pub fn fill(file: &[u8], task: usize, area: &mut [u16]) -> Result<(), Refusal> {
     }
     let found = read(file).and_then(|project| {
         let asked = project.tasks.get(task).ok_or((15, 255))?;
-        states(asked, project.n).ok_or((11, task as u8))
+        states(asked, project.n, MOST_STATES).ok_or((11, task as u8))
     });
     area.fill(0);
     let states = found?;
@@ -242,25 +246,46 @@ pub fn row(area: &[u16], live: bool, block: usize, number: usize) -> (usize, usi
     (start + (32 * block + number) * 16, 16)
 }
 
-/// The useful memory blocks at the end of some block of a task that isn't masked, by cache block, and the rows that it may
+/// The task with each block that has several references cut into a row of blocks with one reference each, so that every
+/// point of the task is the end of a block.
+fn cut(task: &Task) -> Task {
+    let pieces = |block: &Block| block.references.len().max(1);
+    let firsts: Vec<usize> = task.iter().scan(0, |at, block| Some(std::mem::replace(at, *at + pieces(block)))).collect();
+    let mut fine = Task::new();
+    for block in task {
+        for piece in 0..pieces(block) {
+            let successors = if piece + 1 < pieces(block) {
+                vec![fine.len() + 1]
+            } else {
+                block.successors.iter().map(|&next| firsts[next]).collect()
+            };
+            let references = block.references.iter().skip(piece).take(1).copied().collect();
+            fine.push(Block { masked: block.masked, successors, references });
+        }
+    }
+    fine
+}
+
+/// The useful memory blocks at some point of a task in a block that isn't masked, by cache block, and the rows that it may
 /// end with.
 struct Rows {
     useful: BTreeSet<Row>,
     ends: BTreeSet<Row>,
 }
 
-/// The rows of a task; none by check 11.
+/// The rows of a task; none by check 11, which counts at the ends of its blocks.
 fn rows(task: &Task, n: usize) -> Option<Rows> {
-    let states = states(task, n)?;
+    let ends = states(task, n, MOST_STATES)?.reaching.pop()?;
+    let fine = cut(task);
+    let points = states(&fine, n, usize::MAX)?;
     let mut useful = BTreeSet::new();
-    for b in (0..task.len()).filter(|&b| !task[b].masked) {
-        for held in &states.reaching[b] {
-            for wanted in &states.live[b] {
+    for p in (0..fine.len()).filter(|&p| !fine[p].masked) {
+        for held in &points.reaching[p] {
+            for wanted in &points.live[p] {
                 useful.insert(std::array::from_fn(|c| if held[c] == wanted[c] { held[c] } else { NOTHING }));
             }
         }
     }
-    let ends = states.reaching.last().cloned().unwrap_or_default();
     Some(Rows { useful, ends })
 }
 
@@ -337,9 +362,16 @@ struct Path {
     blocks: Vec<u16>,
 }
 
+/// A preemption: a position in the path, how many references of the block there are done, and what comes in.
+struct Preemption {
+    position: u16,
+    done: u16,
+    path: Path,
+}
+
 struct Sheet {
     run: Path,
-    preemptions: Vec<(u16, Path)>,
+    preemptions: Vec<Preemption>,
 }
 
 /// Check 12: the sheet, read to its last number.
@@ -354,12 +386,13 @@ fn read_sheet(sheet: &[u16], t: usize) -> Option<Sheet> {
     let run = path(&mut numbers)?;
     let count = numbers.next().filter(|&count| count <= 16)?;
     let mut preemptions = Vec::new();
-    let mut last = 0;
+    let mut last = (0, 0);
     for _ in 0..count {
-        let point = numbers.next().filter(|&point| last <= point && (point as usize) < run.blocks.len())?;
-        let preempting = path(&mut numbers).filter(|path| path.task != run.task)?;
-        preemptions.push((point, preempting));
-        last = point;
+        let position = numbers.next().filter(|&position| (position as usize) < run.blocks.len())?;
+        let done = numbers.next().filter(|&done| last <= (position, done))?;
+        let path = path(&mut numbers).filter(|path| path.task != run.task)?;
+        preemptions.push(Preemption { position, done, path });
+        last = (position, done);
     }
     numbers.next().is_none().then_some(Sheet { run, preemptions })
 }
@@ -373,21 +406,29 @@ fn is_complete_path(path: &Path, tasks: &[Task]) -> bool {
         && path.blocks.windows(2).all(|pair| task[pair[0] as usize].successors.contains(&(pair[1] as usize)))
 }
 
-/// Makes the references of a block on the cache; whether each of them hits.
-fn hits(cache: &mut Row, block: &Block, n: usize) -> Vec<bool> {
-    let refer = |&m: &u16| std::mem::replace(&mut cache[m as usize % n], m) == m;
-    block.references.iter().map(refer).collect()
+/// Makes a reference on the cache; whether it hits.
+fn hits(cache: &mut Row, m: u16, n: usize) -> bool {
+    std::mem::replace(&mut cache[m as usize % n], m) == m
 }
 
 /// Whether each own reference of a run hits, in order.
-fn run(project: &Project, path: &Path, preemptions: &[(u16, Path)]) -> Vec<bool> {
+fn run(project: &Project, path: &Path, preemptions: &[Preemption]) -> Vec<bool> {
     let mut cache = [NOTHING; 16];
     let mut own = Vec::new();
     for (position, &block) in path.blocks.iter().enumerate() {
-        own.extend(hits(&mut cache, &project.tasks[path.task][block as usize], project.n));
-        for (_, preempting) in preemptions.iter().filter(|(point, _)| *point as usize == position) {
-            for &block in &preempting.blocks {
-                hits(&mut cache, &project.tasks[preempting.task][block as usize], project.n);
+        let references = &project.tasks[path.task][block as usize].references;
+        // in a block without references 0 are done at its only point
+        for done in references.len().min(1)..=references.len() {
+            if done > 0 {
+                own.push(hits(&mut cache, references[done - 1], project.n));
+            }
+            let here = |p: &&Preemption| (p.position as usize, p.done as usize) == (position, done);
+            for Preemption { path: preempting, .. } in preemptions.iter().filter(here) {
+                for &block in &preempting.blocks {
+                    for &m in &project.tasks[preempting.task][block as usize].references {
+                        hits(&mut cache, m, project.n);
+                    }
+                }
             }
         }
     }
@@ -397,12 +438,19 @@ fn run(project: &Project, path: &Path, preemptions: &[(u16, Path)]) -> Vec<bool>
 /// Checks 12, 13 and 16: the sheet.
 fn checked(project: &Project, sheet: &[u16]) -> Result<Sheet, Refusal> {
     let sheet = read_sheet(sheet, project.tasks.len()).ok_or((12, 255))?;
-    let preempting = sheet.preemptions.iter().map(|(_, path)| path);
+    let preempting = sheet.preemptions.iter().map(|p| &p.path);
     if !preempting.chain([&sheet.run]).all(|path| is_complete_path(path, &project.tasks)) {
         return Err((13, 255));
     }
-    let run_block = |point: u16| &project.tasks[sheet.run.task][sheet.run.blocks[point as usize] as usize];
-    if sheet.preemptions.iter().any(|(point, _)| run_block(*point).masked) {
+    let run_block = |p: &Preemption| &project.tasks[sheet.run.task][sheet.run.blocks[p.position as usize] as usize];
+    let right_done = |p: &Preemption| {
+        let count = run_block(p).references.len();
+        (count.min(1)..=count).contains(&(p.done as usize))
+    };
+    if !sheet.preemptions.iter().all(right_done) {
+        return Err((13, 255));
+    }
+    if sheet.preemptions.iter().any(|p| run_block(p).masked) {
         return Err((16, 255));
     }
     Ok(sheet)
@@ -455,7 +503,7 @@ pub fn costliest_run(
     if i == j || i >= t || j >= t {
         return Err((18, 255));
     }
-    if sheet_length < 2310 {
+    if sheet_length < COSTLIEST_SHEET {
         return Err((19, 255));
     }
     let rows_of = |k: usize| rows[k].as_ref().ok_or((11, k as u8));
@@ -473,7 +521,7 @@ pub fn cost(analysed: &Result<Analysed, Refusal>, sheet: &[u16]) -> Result<Cost,
     let (_, _, lost) = counts(project, &sheet);
     Ok(Cost {
         task: sheet.run.task,
-        preempting: sheet.preemptions.iter().map(|(_, path)| path.task).collect(),
+        preempting: sheet.preemptions.iter().map(|p| p.path.task).collect(),
         lost,
     })
 }

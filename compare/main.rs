@@ -7,7 +7,7 @@ use generate::{
     changed_sheet, crowded, damaged, damaged_sheet, longest, loop_sheet, loops, made, masked_sheet, sheet, Made, Random,
     DAMAGES,
 };
-use independent::{Analysed, Block, Cost, AREA};
+use independent::{Analysed, Block, Cost, AREA, COSTLIEST_SHEET};
 use std::collections::{BTreeMap, BTreeSet};
 use std::fmt::Debug;
 
@@ -431,7 +431,7 @@ struct Asked {
 impl Asked {
     /// With lists of the right length.
     fn of(i: usize, j: usize) -> Asked {
-        Asked { i, j, areas: [AREA, AREA], room: 2310, places: 2 }
+        Asked { i, j, areas: [AREA, AREA], room: COSTLIEST_SHEET, places: 2 }
     }
 }
 
@@ -445,7 +445,7 @@ fn run_faults(
     [
         differ("run", &[expected], &[&found]),
         differ("after the run", &vec![OLD_NUMBER; after.len()], after),
-        (run.len() > 2310).then(|| format!("a run of {} numbers", run.len())),
+        (run.len() > COSTLIEST_SHEET).then(|| format!("a run of {} numbers", run.len())),
     ]
 }
 
@@ -491,7 +491,7 @@ fn compare_pairs(report: &mut Report, random: &mut Random, file: &[u8], t: usize
     let analysed = independent::analyse(file);
     for i in 0..t + 2 {
         for j in 0..t + 2 {
-            let room = random.pick(&[2310, 2310, 2311, 5000]);
+            let room = random.pick(&[COSTLIEST_SHEET, COSTLIEST_SHEET, COSTLIEST_SHEET + 1, 5000]);
             compare_costliest_run(report, file, &analysed, Asked { room, ..Asked::of(i, j) });
         }
     }
@@ -510,12 +510,12 @@ fn compare_run_lengths(report: &mut Report, file: &[u8]) {
         let asked = Asked::of(i, j);
         for wrong in [0, AREA - 1, AREA + 1] {
             for areas in [[wrong, AREA], [AREA, wrong], [wrong, wrong]] {
-                for (room, places) in [(2310, 2), (2309, 2), (2310, 1), (2309, 3)] {
+                for (room, places) in [(COSTLIEST_SHEET, 2), (COSTLIEST_SHEET - 1, 2), (COSTLIEST_SHEET, 1), (COSTLIEST_SHEET - 1, 3)] {
                     compare_costliest_run(report, file, &analysed, Asked { areas, room, places, ..asked });
                 }
             }
         }
-        for room in [0, 1, 2309, 2310, 2311, 5000] {
+        for room in [0, 1, COSTLIEST_SHEET - 1, COSTLIEST_SHEET, COSTLIEST_SHEET + 1, 5000] {
             compare_costliest_run(report, file, &analysed, Asked { room, ..asked });
         }
         for places in [0, 1, 3, 4] {
@@ -537,22 +537,17 @@ fn compare_sheet_limits(report: &mut Report) {
     }
 }
 
-/// The examples of document 01, the same file with flags, and examples of Points 2, 3 and 5 hold of the independent
+/// The examples of document 01, the same file with flags, and examples of Points 2, 3, 5 and 6 hold of the independent
 /// implementation.
 fn examples() {
-    let block = |successors: &[usize], references: &[u16]| Block {
-        masked: false,
-        successors: successors.to_vec(),
-        references: references.to_vec(),
-    };
     let e = Made { n: 2, tasks: vec![vec![block(&[0], &[0, 1])], vec![block(&[], &[2])]] }.file();
     assert_eq!(e.len(), 33);
     let mut table = [7; 64];
     assert_eq!(independent::table(&e, AREA, &mut table), Ok(()));
     assert_eq!((table[1], table[8], table.iter().sum::<u16>()), (1, 0, 1));
-    assert_eq!(independent::replay(&e, &[0, 2, 0, 0, 1, 0, 1, 1, 0]), Ok((2, 3, 1)));
+    assert_eq!(independent::replay(&e, &[0, 2, 0, 0, 1, 0, 2, 1, 1, 0]), Ok((2, 3, 1)));
     assert_eq!(independent::replay(&e, &[0, 2, 0, 0, 0]), Ok((2, 2, 0)));
-    assert_eq!(independent::replay(&e, &[0, 2, 0, 0, 1, 1, 1, 1, 0]), Ok((2, 2, 0)));
+    assert_eq!(independent::replay(&e, &[0, 2, 0, 0, 1, 1, 2, 1, 1, 0]), Ok((2, 2, 0)));
     assert_eq!(independent::replay(&e, &[0, 0]), Err((12, 255)));
     assert_eq!(independent::replay(&e, &[0, 1, 5, 0]), Err((13, 255)));
     // byte 18 has the flags of the block of task 0
@@ -560,43 +555,64 @@ fn examples() {
     let masked = with_flags(1);
     assert_eq!(independent::table(&masked, AREA, &mut table), Ok(()));
     assert_eq!(table, [0; 64]);
-    assert_eq!(independent::replay(&masked, &[0, 2, 0, 0, 1, 0, 1, 1, 0]), Err((16, 255)));
+    assert_eq!(independent::replay(&masked, &[0, 2, 0, 0, 1, 0, 2, 1, 1, 0]), Err((16, 255)));
     assert_eq!(independent::replay(&masked, &[0, 2, 0, 0, 0]), Ok((2, 2, 0)));
-    assert_eq!(independent::replay(&masked, &[1, 1, 0, 1, 0, 0, 1, 0]), Ok((1, 1, 0)));
+    assert_eq!(independent::replay(&masked, &[1, 1, 0, 1, 0, 1, 0, 1, 0]), Ok((1, 1, 0)));
     assert_eq!(independent::table(&with_flags(2), AREA, &mut table), Err((8, 0)));
     assert_eq!(independent::microseconds(1, 1, 3), Ok((333, 1)));
     assert_eq!(independent::microseconds(16, 1000, 1), Ok((16_000_000, 0)));
     assert_eq!(independent::microseconds(17, 1000, 1), Err((17, 255)));
     let analysed = independent::analyse(&e);
     let cost = |i: usize, j: usize, room: usize| independent::costliest_run(&analysed, i, j, [AREA, AREA], room);
-    assert_eq!(cost(0, 1, 2310), independent::cost(&analysed, &[0, 2, 0, 0, 1, 0, 1, 1, 0]));
-    assert_eq!(cost(1, 0, 2310), independent::cost(&analysed, &[1, 1, 0, 1, 0, 0, 1, 0]));
-    assert_eq!(cost(0, 2, 2309), Err((18, 255)));
-    assert_eq!(cost(0, 1, 2309), Err((19, 255)));
+    assert_eq!(cost(0, 1, 2311), independent::cost(&analysed, &[0, 2, 0, 0, 1, 0, 2, 1, 1, 0]));
+    assert_eq!(cost(1, 0, 2311), independent::cost(&analysed, &[1, 1, 0, 1, 0, 1, 0, 1, 0]));
+    assert_eq!(cost(0, 2, 2310), Err((18, 255)));
+    assert_eq!(cost(0, 1, 2310), Err((19, 255)));
     shared_examples(&e);
+    point_examples(&e);
+}
+
+/// A block without a mask.
+fn block(successors: &[usize], references: &[u16]) -> Block {
+    Block { masked: false, successors: successors.to_vec(), references: references.to_vec() }
+}
+
+/// The first two pair numbers of a file of two tasks, and what Replay answers for a sheet.
+fn answers(file: &[u8], sheet: &[u16]) -> (u16, u16, Result<(u32, u32, u32), independent::Refusal>) {
+    let mut table = [7; 64];
+    assert_eq!(independent::table(file, AREA, &mut table), Ok(()));
+    (table[1], table[8], independent::replay(file, sheet))
 }
 
 /// Files whose tasks share memory blocks: E where task 1 reads 0, and three files where a claim next to Point 5's is false.
 fn shared_examples(e: &[u8]) {
-    let block = |successors: &[usize], references: &[u16]| Block {
-        masked: false,
-        successors: successors.to_vec(),
-        references: references.to_vec(),
-    };
-    let answers = |file: &[u8], sheet: &[u16]| {
-        let mut table = [7; 64];
-        assert_eq!(independent::table(file, AREA, &mut table), Ok(()));
-        (table[1], table[8], independent::replay(file, sheet))
-    };
     let reads_0 = [&e[..31], &[0], &e[32..]].concat();
-    assert_eq!(answers(&reads_0, &[0, 2, 0, 0, 1, 0, 1, 1, 0]), (0, 0, Ok((2, 2, 0))));
+    assert_eq!(answers(&reads_0, &[0, 2, 0, 0, 1, 0, 2, 1, 1, 0]), (0, 0, Ok((2, 2, 0))));
     let gain = Made { n: 1, tasks: vec![vec![block(&[1], &[]), block(&[], &[4])], vec![block(&[], &[4])]] }.file();
-    assert_eq!(answers(&gain, &[0, 2, 0, 1, 1, 0, 1, 1, 0]), (0, 0, Ok((1, 0, 0))));
+    assert_eq!(answers(&gain, &[0, 2, 0, 1, 1, 0, 0, 1, 1, 0]), (0, 0, Ok((1, 0, 0))));
     let both = Made { n: 2, tasks: vec![vec![block(&[1], &[0]), block(&[], &[0, 1])], vec![block(&[], &[2, 1])]] }.file();
-    assert_eq!(answers(&both, &[0, 2, 0, 1, 1, 0, 1, 1, 0]), (1, 0, Ok((2, 2, 1))));
-    assert_eq!(answers(&both, &[0, 2, 0, 1, 1, 1, 1, 1, 0]), (1, 0, Ok((2, 2, 0))));
+    assert_eq!(answers(&both, &[0, 2, 0, 1, 1, 0, 1, 1, 1, 0]), (1, 0, Ok((2, 2, 1))));
+    assert_eq!(answers(&both, &[0, 2, 0, 1, 1, 1, 1, 1, 1, 0]), (1, 0, Ok((2, 1, 0))));
+    assert_eq!(answers(&both, &[0, 2, 0, 1, 1, 1, 2, 1, 1, 0]), (1, 0, Ok((2, 2, 0))));
     let same = Made { n: 1, tasks: vec![vec![block(&[0], &[2])], vec![block(&[], &[2])]] }.file();
-    assert_eq!(answers(&same, &[0, 2, 0, 0, 1, 0, 1, 1, 0]), (0, 0, Ok((1, 1, 0))));
+    assert_eq!(answers(&same, &[0, 2, 0, 0, 1, 0, 1, 1, 1, 0]), (0, 0, Ok((1, 1, 0))));
+}
+
+/// Preemptions between two references: refusals on E, and two files where a claim next to Point 6's is false.
+fn point_examples(e: &[u8]) {
+    let after = |position: u16, done: u16| [0, 2, 0, 0, 1, position, done, 1, 1, 0];
+    assert_eq!(independent::replay(e, &after(0, 1)), Ok((2, 3, 1)));
+    for (position, done, check) in [(0, 0, 13), (0, 3, 13), (2, 2, 12)] {
+        assert_eq!(independent::replay(e, &after(position, done)), Err((check, 255)));
+    }
+    let both = |first: u16, second: u16| [0, 2, 0, 0, 2, 0, first, 1, 1, 0, 0, second, 1, 1, 0];
+    assert_eq!(independent::replay(e, &both(2, 1)), Err((12, 255)));
+    assert_eq!(independent::replay(e, &both(9, 2)), Err((12, 255)));
+    let twice = Made { n: 1, tasks: vec![vec![block(&[], &[6, 6])], vec![block(&[], &[4])]] }.file();
+    assert_eq!(answers(&twice, &[0, 1, 0, 1, 0, 1, 1, 1, 0]), (1, 0, Ok((1, 2, 1))));
+    let first = Block { masked: true, ..block(&[1], &[6]) };
+    let entered = Made { n: 1, tasks: vec![vec![first, block(&[], &[6])], vec![block(&[], &[4])]] }.file();
+    assert_eq!(answers(&entered, &[0, 2, 0, 1, 1, 1, 0, 1, 1, 0]), (0, 0, Err((13, 255))));
 }
 
 /// A valid file: every call with lists of the right length, every task and some that aren't there.

@@ -51,14 +51,14 @@ extern "C" {
  *  12  the run sheet is too short or too long, or a length, a count, a
  *      task or a point in it is against the rules
  *  13  a path in the run sheet isn't complete, or names a block that
- *      isn't there
+ *      isn't there, or the number of references done at a point is wrong
  *  14  the out list is shorter than the file
  *  15  the task is not below t
- *  16  a preemption in the run sheet comes after a masked block
+ *  16  a preemption in the run sheet comes in a masked block
  *  17  a pair number is over 16, a miss penalty outside 1 to 1,000
  *      or a clock outside 1 to 1,000,000
  *  18  the two tasks are equal, or one is not below t
- *  19  the sheet to write is shorter than 2,310 numbers
+ *  19  the sheet to write is shorter than 2,311 numbers
  */
 enum crpd_status {
     CRPD_DONE = 0,
@@ -90,7 +90,7 @@ enum crpd_status {
 #define CRPD_CACHE_BLOCKS 16   /* the most cache blocks */
 #define CRPD_TASKS 8           /* the most tasks */
 #define CRPD_BLOCKS 24         /* the most basic blocks of a task */
-#define CRPD_MASKED 1          /* the flags of a masked block, after which no preemption comes; those of other blocks are 0 */
+#define CRPD_MASKED 1          /* the flags of a masked block, in which no preemption comes; those of other blocks are 0 */
 
 /* The work area: reaching rows, live rows, reaching counts, live counts, zeros. */
 #define CRPD_AREA_LENGTH 24832      /* numbers of a work area */
@@ -109,8 +109,8 @@ enum crpd_status {
 /* The run sheet. */
 #define CRPD_PATH_LENGTH 1536             /* the most blocks of a path */
 #define CRPD_PREEMPTIONS 16               /* the most preemptions */
-#define CRPD_SHEET_LENGTH 26163           /* numbers of the longest sheet: 1,539 for the task and for each preemption */
-#define CRPD_COSTLIEST_SHEET_LENGTH 2310  /* the fewest numbers of a sheet that crpd_costliest_run takes */
+#define CRPD_SHEET_LENGTH 26179           /* numbers of the longest sheet: 1,539 for the task, 1,540 for each preemption */
+#define CRPD_COSTLIEST_SHEET_LENGTH 2311  /* the fewest numbers of a sheet that crpd_costliest_run takes */
 
 /* Microseconds. */
 #define CRPD_NUMBER 16      /* the largest pair number */
@@ -184,9 +184,10 @@ uint8_t crpd_row(
  * area: CRPD_AREA_LENGTH places to work in, which may hold anything before. Where named is of the right length they
  * may hold anything afterwards, refused or not.
  * numbers: CRPD_TABLE_LENGTH places, which keep their contents after a refusal. When the call is done:
- *   CRPD_TABLE_WIDTH * i + j: the number of task i preempted by task j, over the blocks of i that are not masked: the
- *     most cache blocks that are useful in i and where j ends with a memory block other than the useful one; 0 where i
- *     has no such block, i is j or one of them is absent
+ *   CRPD_TABLE_WIDTH * i + j: the number of task i preempted by task j, after any single reference in the blocks of i
+ *     that are not masked, or in such a block without references: the most cache blocks that are useful in i there and
+ *     where j ends with a memory block other than the useful one; 0 where i has no such block, i is j or one of them is
+ *     absent
  * named: CRPD_NAMED_LENGTH place:
  *   0: the task that the check names, or CRPD_NO_TASK
  */
@@ -203,8 +204,11 @@ uint8_t crpd_table(
  *   the path's blocks
  *   the number of preemptions, 0 to CRPD_PREEMPTIONS
  *   for each preemption:
- *     the point: a position in p's path, from 0, after whose block it comes; not below the point before. Check 16
- *       asks that this block, in p's body, is not masked.
+ *     the position: where in p's path it comes, from 0; not below the position before. Check 16 asks that the block
+ *       there, in p's body, is not masked.
+ *     the references done: how many of that block's references come before it. Check 13 asks that they are 1 to all,
+ *       or 0 where the block has none; check 12 that they are not below those of the preemption before where that has
+ *       the same position.
  *     the task, below t and not p
  *     its path's length, 1 to CRPD_PATH_LENGTH
  *     the path's blocks
@@ -258,7 +262,8 @@ uint8_t crpd_microseconds(uint32_t number, uint32_t penalty, uint32_t clock, uin
  *   its path's length, 1 to CRPD_PATH_LENGTH
  *   the path's blocks
  *   the number of preemptions: 1, or 0 where all blocks of i are masked, and then the run ends here
- *   the point: a position in the path, from 0, after whose block the preemption comes; that block is not masked
+ *   the position in the path, from 0, where the preemption comes; the block there is not masked
+ *   the references done: how many of that block's references come before it
  *   task j
  *   its path's length, 1 to CRPD_PATH_LENGTH
  *   the path's blocks

@@ -9,7 +9,7 @@ pub const TABLE_LENGTH: usize = 64;
 /// Bytes of the longest file: an out list of this length always suffices.
 pub const FILE_LENGTH: usize = 7544;
 /// The fewest numbers of a sheet that the costliest run is written to: they always suffice.
-pub const COSTLIEST_SHEET_LENGTH: usize = 2310;
+pub const COSTLIEST_SHEET_LENGTH: usize = 2311;
 /// In a row: no memory block.
 pub const NOTHING: u16 = 65535;
 /// In the answers of the calls for C: no task.
@@ -117,7 +117,8 @@ pub fn table(file: &[u8], area: &mut [u16], numbers: &mut [u16]) -> Result<(), R
     result(status, named[0], ())
 }
 
-/// Replay: checks 2 to 9, 12, 13 and 16.
+/// Replay: checks 2 to 9, 12, 13 and 16. A preemption of the sheet is a position in the path, the references done there, a
+/// task and its path.
 #[inline]
 pub fn replay(file: &[u8], sheet: &[u16]) -> Result<Misses, Refusal> {
     let mut answer = [0; 4];

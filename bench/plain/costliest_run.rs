@@ -1,6 +1,6 @@
 //! The costliest run the plain way.
 use super::table::{replaced, useful};
-use super::{after, before, predecessors, read, Refusal, Row, Task, MOST_STATES, NOTHING};
+use super::{after, before, left_at_points, predecessors, read, refer, Refusal, Row, Task, MOST_STATES, NOTHING};
 use std::collections::BTreeMap;
 
 /// The rows of each block, each with the block and the row that it was first met from; the first row has none.
@@ -36,11 +36,11 @@ fn gathered(n: usize, tasks: &[Task], k: usize) -> Result<Gathered, Refusal> {
     let task = &tasks[k];
     let empty = vec![NOTHING; n];
     let back = predecessors(task);
-    let reaching = gather(task.len(), (0, after(n, &empty, &task[0])), |b, row| {
-        task[b].successors.iter().map(|&c| (c, after(n, row, &task[c]))).collect()
+    let reaching = gather(task.len(), (0, after(&empty, &task[0])), |b, row| {
+        task[b].successors.iter().map(|&c| (c, after(row, &task[c]))).collect()
     });
     let live = gather(task.len(), (task.len() - 1, empty), |b, row| {
-        let new = before(n, row, &task[b]);
+        let new = before(row, &task[b]);
         back[b].iter().map(|&c| (c, new.clone())).collect()
     });
     match (reaching, live) {
@@ -67,24 +67,49 @@ fn path_to(reaching: &Parents, block: usize, row: &Row) -> Vec<u16> {
     blocks
 }
 
-/// Where a preemption costs most: a block of the task that isn't masked, a reaching and a live row of it and a row that the other task
-/// ends with; none if all blocks are masked.
-fn costliest<'a>(task: &Task, own: &'a Gathered, other: &'a Parents) -> Option<(usize, &'a Row, &'a Row, &'a Row)> {
+/// Where a preemption costs most: a block of the task that isn't masked, how many of its references are done, a row before it, with the
+/// predecessor that it comes from, a live row of it and a row that the other task ends with.
+struct Point<'a> {
+    block: usize,
+    done: usize,
+    before: Option<(usize, &'a Row)>,
+    live: &'a Row,
+    end: &'a Row,
+}
+
+/// The point that costs most; none if all blocks are masked.
+fn costliest<'a>(n: usize, task: &Task, own: &'a Gathered, other: &'a Parents) -> Option<Point<'a>> {
+    let back = predecessors(task);
+    let empty = vec![NOTHING; n];
     let mut most = 0;
     let mut found = None;
-    for b in 0..task.len() {
-        if task[b].masked {
+    for block in 0..task.len() {
+        if task[block].masked {
             continue;
         }
-        for r in own.reaching[b].keys() {
-            let sets: Vec<(u32, &Row)> = other[other.len() - 1].keys().map(|end| (replaced(end, r), end)).collect();
-            for l in own.live[b].keys() {
-                let u = useful(r, l);
-                for &(v, e) in &sets {
-                    let number = (u & v).count_ones();
-                    if found.is_none() || most < number {
-                        most = number;
-                        found = Some((b, r, l, e));
+        let references = &task[block].references;
+        let mut entered: Vec<Option<(usize, &Row)>> =
+            back[block].iter().flat_map(|&c| own.reaching[c].keys().map(move |row| Some((c, row)))).collect();
+        if block == 0 {
+            entered.push(None);
+        }
+        let lived: Vec<&Row> = own.live[block].keys().collect();
+        let left = left_at_points(references, &lived);
+        for before in entered {
+            let mut r = before.map_or(&empty, |(_, row)| row).clone();
+            for done in references.len().min(1)..=references.len() {
+                if 0 < done {
+                    refer(&mut r, references[done - 1]);
+                }
+                let sets: Vec<(u32, &Row)> = other[other.len() - 1].keys().map(|end| (replaced(end, &r), end)).collect();
+                for (l, &live) in left[done].iter().zip(&lived) {
+                    let u = useful(&r, l);
+                    for &(v, end) in &sets {
+                        let number = (u & v).count_ones();
+                        if found.is_none() || most < number {
+                            most = number;
+                            found = Some(Point { block, done, before, live, end });
+                        }
                     }
                 }
             }
@@ -95,18 +120,18 @@ fn costliest<'a>(task: &Task, own: &'a Gathered, other: &'a Parents) -> Option<(
 
 /// The numbers of a run of task i with one preemption by task j that costs as much as any; without the preemption if all blocks of i are
 /// masked.
-fn run(tasks: &[Task], i: usize, j: usize, own: &Gathered, other: &Parents) -> Vec<u16> {
+fn run(n: usize, tasks: &[Task], i: usize, j: usize, own: &Gathered, other: &Parents) -> Vec<u16> {
     let end = tasks[i].len() - 1;
-    let Some((b, r, l, e)) = costliest(&tasks[i], own, other) else {
+    let Some(point) = costliest(n, &tasks[i], own, other) else {
         let (any, _) = own.reaching[end].first_key_value().unwrap();
         let path = path_to(&own.reaching, end, any);
         return [vec![i as u16, path.len() as u16], path, vec![0]].concat();
     };
-    let mut path = path_to(&own.reaching, b, r);
-    let point = path.len() - 1;
-    path.extend(&trail(&own.live, b, l)[1..]);
-    let preempting = path_to(other, tasks[j].len() - 1, e);
-    let preemption = vec![1, point as u16, j as u16, preempting.len() as u16];
+    let mut path = point.before.map_or(vec![], |(c, row)| path_to(&own.reaching, c, row));
+    let position = path.len();
+    path.extend(trail(&own.live, point.block, point.live));
+    let preempting = path_to(other, tasks[j].len() - 1, point.end);
+    let preemption = vec![1, position as u16, point.done as u16, j as u16, preempting.len() as u16];
     [vec![i as u16, path.len() as u16], path, preemption, preempting].concat()
 }
 
@@ -123,13 +148,13 @@ pub fn costliest_run(
     if i == j || tasks.len() <= i || tasks.len() <= j {
         return Err((18, 255));
     }
-    if sheet.len() < 2310 {
+    if sheet.len() < 2311 {
         return Err((19, 255));
     }
     let low = gathered(n, &tasks, i.min(j))?;
     let high = gathered(n, &tasks, i.max(j))?;
     let (own, other) = if i < j { (low, high) } else { (high, low) };
-    let numbers = run(&tasks, i, j, &own, &other.reaching);
+    let numbers = run(n, &tasks, i, j, &own, &other.reaching);
     sheet[..numbers.len()].copy_from_slice(&numbers);
     Ok(numbers.len())
 }

@@ -168,33 +168,58 @@ fn gather(count: usize, first: (usize, Row), next: impl Fn(usize, &Row) -> Vec<(
     Some(rows)
 }
 
-fn after(n: usize, row: &Row, block: &Block) -> Row {
+fn refer(row: &mut Row, m: u16) {
+    let place = m as usize % row.len();
+    row[place] = m;
+}
+
+fn after(row: &Row, block: &Block) -> Row {
     let mut row = row.clone();
     for &m in &block.references {
-        row[m as usize % n] = m;
+        refer(&mut row, m);
     }
     row
 }
 
-fn before(n: usize, row: &Row, block: &Block) -> Row {
+fn before(row: &Row, block: &Block) -> Row {
     let mut row = row.clone();
     for &m in block.references.iter().rev() {
-        row[m as usize % n] = m;
+        refer(&mut row, m);
     }
     row
+}
+
+/// The rows before each block: those that reach its predecessors, and the empty one for the entry.
+fn entering(n: usize, task: &Task, reached: &[BTreeSet<Row>]) -> Vec<BTreeSet<Row>> {
+    let mut entered: Vec<BTreeSet<Row>> =
+        predecessors(task).iter().map(|back| back.iter().flat_map(|&c| reached[c].clone()).collect()).collect();
+    entered[0].insert(vec![NOTHING; n]);
+    entered
+}
+
+/// For each number of references done the live rows, overlaid by the first references of what is left.
+fn left_at_points(references: &[u16], lived: &[&Row]) -> Vec<Vec<Row>> {
+    let left = |done: usize, row: &Row| {
+        let mut row = row.clone();
+        for &m in references[done..].iter().rev() {
+            refer(&mut row, m);
+        }
+        row
+    };
+    (0..=references.len()).map(|done| lived.iter().map(|row| left(done, row)).collect()).collect()
 }
 
 pub fn reaching(n: usize, task: &Task) -> Option<Vec<BTreeSet<Row>>> {
     let empty = vec![NOTHING; n];
-    gather(task.len(), (0, after(n, &empty, &task[0])), |b, row| {
-        task[b].successors.iter().map(|&c| (c, after(n, row, &task[c]))).collect()
+    gather(task.len(), (0, after(&empty, &task[0])), |b, row| {
+        task[b].successors.iter().map(|&c| (c, after(row, &task[c]))).collect()
     })
 }
 
 pub fn live(n: usize, task: &Task) -> Option<Vec<BTreeSet<Row>>> {
     let back = predecessors(task);
     gather(task.len(), (task.len() - 1, vec![NOTHING; n]), |b, row| {
-        let new = before(n, row, &task[b]);
+        let new = before(row, &task[b]);
         back[b].iter().map(|&c| (c, new.clone())).collect()
     })
 }

@@ -5,7 +5,8 @@ use super::{read, Refusal, Task, NOTHING};
 const LONGEST_PATH: usize = 1536;
 
 struct Preemption<'a> {
-    point: usize,
+    position: usize,
+    done: usize,
     task: usize,
     path: &'a [u16],
 }
@@ -26,7 +27,15 @@ pub fn replay(file: &[u8], sheet: &[u16]) -> Result<(u32, u32, u32), Refusal> {
     if !all_complete {
         return Err((13, 255));
     }
-    if run.preemptions.iter().any(|p| tasks[run.task][run.path[p.point] as usize].masked) {
+    let block = |p: &Preemption| &tasks[run.task][run.path[p.position] as usize];
+    let right = |p: &Preemption| {
+        let count = block(p).references.len();
+        if count == 0 { p.done == 0 } else { 1 <= p.done && p.done <= count }
+    };
+    if !run.preemptions.iter().all(right) {
+        return Err((13, 255));
+    }
+    if run.preemptions.iter().any(|p| block(p).masked) {
         return Err((16, 255));
     }
     Ok(misses(n, &tasks, &run))
@@ -60,15 +69,16 @@ fn parse(sheet: &[u16], t: usize) -> Option<Run<'_>> {
         return None;
     }
     let mut preemptions = Vec::with_capacity(count);
-    let mut last = 0;
+    let mut last = (0, 0);
     for _ in 0..count {
-        let point = take(&mut rest)?;
+        let position = take(&mut rest)?;
+        let done = take(&mut rest)?;
         let other = take(&mut rest)?;
-        if point < last || path.len() <= point || t <= other || other == task {
+        if (position, done) < last || path.len() <= position || t <= other || other == task {
             return None;
         }
-        preemptions.push(Preemption { point, task: other, path: take_path(&mut rest)? });
-        last = point;
+        preemptions.push(Preemption { position, done, task: other, path: take_path(&mut rest)? });
+        last = (position, done);
     }
     if rest.is_empty() { Some(Run { task, path, preemptions }) } else { None }
 }
@@ -96,16 +106,20 @@ fn misses(n: usize, tasks: &[Task], run: &Run) -> (u32, u32, u32) {
     let mut counts = (0, 0, 0);
     let mut coming = run.preemptions.iter().peekable();
     for (position, &b) in run.path.iter().enumerate() {
-        for &m in &tasks[run.task][b as usize].references {
-            let (before, after) = (hits(&mut alone, m), hits(&mut disturbed, m));
-            counts.0 += u32::from(!before);
-            counts.1 += u32::from(!after);
-            counts.2 += u32::from(before && !after);
-        }
-        while let Some(p) = coming.next_if(|p| p.point == position) {
-            for &c in p.path {
-                for &m in &tasks[p.task][c as usize].references {
-                    hits(&mut disturbed, m);
+        let references = &tasks[run.task][b as usize].references;
+        for done in references.len().min(1)..=references.len() {
+            if 0 < done {
+                let m = references[done - 1];
+                let (before, after) = (hits(&mut alone, m), hits(&mut disturbed, m));
+                counts.0 += u32::from(!before);
+                counts.1 += u32::from(!after);
+                counts.2 += u32::from(before && !after);
+            }
+            while let Some(p) = coming.next_if(|p| p.position == position && p.done == done) {
+                for &c in p.path {
+                    for &m in &tasks[p.task][c as usize].references {
+                        hits(&mut disturbed, m);
+                    }
                 }
             }
         }

@@ -4,15 +4,16 @@ use mathlib.Core.Path.{_≡_, refl, sym, ap, _∙_}
 use mathlib.Core.Logic.{_⊎_, inl, inr}
 use mathlib.Core.Bool.{Bool, true, false, _&&_, cond}
 use mathlib.Core.List.{List, [], _∷_, _++_, append-assoc}
-use Prim.Native.Nat.{ℕ, zero, suc, _+_, _*_, _≤_, _<_}
+use Prim.Native.Nat.{ℕ, zero, suc, _+_, _*_, _/_, _≤_, _<_}
 use native.Mathlib.Omega.{arith}
 use lib.Dec.{eqb, leb}
 use lib.ListN.{length, getD, take, drop, length-append, length-take, length-drop, take-append-drop}
 use lib.Seq.{take-at, drop-at, take-add}
 use borrow.Author.Tests.{eqb-true, eq-eqb, leb-true, le-leb}
 use Rattle.cache.specs.References.{Real, All, numbers}
+use Rattle.cache.proofs.NumberLaws.{length-numbers as half-numbers}
 use Rattle.model.specs.Lists.{Each}
-use Rattle.model.specs.Tasks.{Block, Task, memoryBlocks}
+use Rattle.model.specs.Tasks.{Block, Task, block, memoryBlocks}
 use Rattle.model.proofs.Membership.{both-left, both-right}
 use Rattle.model.proofs.Disjoint.{all-map}
 use Rattle.body.specs.Layout.{twoBytes, blocksBytes, bodyBytes, BlockInBounds, InBounds, Layout}
@@ -227,6 +228,20 @@ blocks-long B (x ∷ t) h =
 
 pub body-long : (t : Task) → InBounds t → length (bodyBytes t) ≤ 938
 body-long t h = omega (arith, blocks-long (length t) t (h .each), h .few)
+
+-- ---- no block has more than 16 references
+
+pub few-references : (t : Task) → InBounds t → (b : ℕ) → length (block t b .references) ≤ 16
+few-references t h b = go t (h .each) b
+  where
+    go : (u : Task) → Each (BlockInBounds (length t)) u → (b : ℕ) → length (block u b .references) ≤ 16
+    go [] e b = omega arith
+    go (x ∷ u) e zero = e .0 .references
+    go (x ∷ u) e (suc b) = go u (e .1) b
+
+-- the same for the bytes of a block's references
+pub few-bytes : (t : Task) → InBounds t → (b : ℕ) (bytes : List ℕ) → numbers bytes ≡ block t b .references → length bytes / 2 ≤ 16
+few-bytes t h b bytes e = omega (arith, half-numbers bytes, ap length e, few-references t h b)
 
 -- ---- references are memory blocks
 

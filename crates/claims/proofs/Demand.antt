@@ -3,7 +3,7 @@
 use mathlib.Core.Path.{_≡_, refl, sym, ap, _∙_}
 use mathlib.Core.Logic.{_≢_}
 use mathlib.Core.List.{List}
-use Prim.Native.Nat.{ℕ, _+_, _*_, _<_}
+use Prim.Native.Nat.{ℕ, _+_, _*_, _≤_, _<_}
 use native.Mathlib.Nat.{zero-add}
 use native.Mathlib.Omega.{arith}
 use lib.ListN.{getD}
@@ -11,9 +11,9 @@ use borrow.Author.Tests.{lt-ltb, ne-eqb}
 use Rattle.model.specs.Tasks.{task, Apart}
 use Rattle.model.specs.Runs.{DisturbedRun}
 use Rattle.model.specs.Demand.{BoundedApart}
-use Rattle.model.specs.Numbers.{NumberOverAll}
-use Rattle.model.proofs.Most.{pair-is}
-use Rattle.model.proofs.OldNumbers.{without-masks}
+use Rattle.model.specs.Numbers.{NumberAtEnds, NumberOverAll}
+use Rattle.model.proofs.Most.{pair-is, ends-le}
+use Rattle.model.proofs.OldNumbers.{over-all-ends}
 use Rattle.model.proofs.Bounds.{bounded-apart}
 use Rattle.project.specs.declared.answers.Check.{Check}
 use Rattle.project.specs.declared.answers.Check.the-variants.{Passed}
@@ -83,7 +83,11 @@ runs-apart s h n t e apart = record {
     each : (run : DisturbedRun (tasksOf s)) → BoundedApart (fileCache s) (tasksOf s) run
     each run = bounded-apart (fileCache s) (tasksOf s) (file-rules s h n t e) run apart
 
--- such a file without masked blocks has the numbers of document 01 alone
-pub numbers-without-masks : (s : List ℕ) → Apart (tasksOf s) → NoMasks s → (i j : ℕ) → i ≢ j
-    → NumberOverAll (fileCache s) (task (tasksOf s) i) (task (tasksOf s) j) (filePair s i j)
-numbers-without-masks s apart free i j ne = without-masks (fileCache s) (task (tasksOf s) i) (task (tasksOf s) j) (apart i j ne) (free i)
+-- no number of a file is below the one over the ends of blocks alone, as it was before Point 6
+pub numbers-at-ends : (s : List ℕ) (i j x : ℕ) → NumberAtEnds (fileCache s) (task (tasksOf s) i) (task (tasksOf s) j) x → x ≤ filePair s i j
+numbers-at-ends s i j x n = ends-le (fileCache s) (task (tasksOf s) i) (task (tasksOf s) j) x n
+
+-- where no two tasks share a memory block and no block is masked, that is the number of document 01 alone
+pub numbers-without-masks : (s : List ℕ) → Apart (tasksOf s) → NoMasks s → (i j : ℕ) → i ≢ j → (x : ℕ)
+    → NumberOverAll (fileCache s) (task (tasksOf s) i) (task (tasksOf s) j) x → NumberAtEnds (fileCache s) (task (tasksOf s) i) (task (tasksOf s) j) x
+numbers-without-masks s apart free i j ne x n = over-all-ends (fileCache s) (task (tasksOf s) i) (task (tasksOf s) j) (apart i j ne) (free i) x n

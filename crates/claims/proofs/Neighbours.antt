@@ -1,4 +1,4 @@
--- False neighbours of demand 3 and of Points 3 and 5, refuted over files and calls.
+-- False neighbours of demand 3 and of Points 3, 5 and 6, refuted over files and calls.
 -- The idea: E's replay has U = 2 and D = 3, and its pair numbers are 1 and 0; with byte 18 = 01 task 0 is masked, with byte 28 = 01 task 1. The
 -- files whose tasks share memory blocks are those of the model's tasks, and their answers are computed.
 use mathlib.Core.Path.{_≡_, refl, ap}
@@ -7,13 +7,16 @@ use Prim.Native.Nat.{ℕ, _+_, _≤_}
 use native.Mathlib.Omega.{arith}
 use lib.ListN.{length, set}
 use Rattle.cache.specs.References.{nothing, numbers}
+use Rattle.cache.specs.Sets.{usefulReplaced}
 use Rattle.model.specs.Tasks.{SomeUnmasked, stay, task}
-use Rattle.model.specs.Numbers.{NumberOverAll}
+use Rattle.model.specs.Numbers.{NumberAtEnds, NumberOverAll}
 use Rattle.model.specs.Runs.{DisturbedRun, OnceBy}
-use Rattle.model.specs.Computed.{usedNumber}
-use Rattle.model.specs.Figures.{tasksGain, tasksBoth, tasksSame}
+use Rattle.model.specs.Computed.{most, usedNumber}
+use Rattle.model.specs.Figures.{tasksGain, tasksBoth, tasksSame, tasksTwice, tasksEntered}
 use Rattle.model.proofs.Neighbours.{over-all-1, all-masked, none-loses-1, masked-1}
 use Rattle.model.proofs.SharedNeighbours.{both-never}
+use Rattle.model.proofs.PointNeighbours.{betweenTwo, between-counts, ends-0, fromZero, not-before-first}
+use Rattle.model.proofs.Examples.{byTask1}
 use Rattle.body.specs.Layout.{bodyBytes}
 use Rattle.body.specs.Decode.{decode, blocksFrom}
 use Rattle.project.specs.File.{fileOf}
@@ -22,7 +25,7 @@ use Rattle.project.specs.declared.answers.Reading.the-variants.{Accepted}
 use Rattle.project.specs.Reading.{readingOf}
 use Rattle.project.specs.Tasks.{tasksOf, fileCache, filePair}
 use Rattle.sheet.specs.Parsed.{preemptionsFrom, afterPath, parse}
-use Rattle.replay.specs.declared.Replaying.the-variants.{Counted}
+use Rattle.replay.specs.declared.Replaying.the-variants.{Counted, Refused}
 use Rattle.replay.specs.Replay.{replayingOf}
 use Rattle.costliest.specs.Costliest.{Costliest}
 use Rattle.claims.specs.Demand.{fileU, fileD, fileLost}
@@ -30,7 +33,7 @@ use Rattle.claims.proofs.Papers.{papers}
 
 -- "a preemption costs nothing"
 pub not-D-le-U : ((s sheet : List ℕ) (u d l : ℕ) → replayingOf s sheet ≡ Counted u d l → d ≤ u) → ⊥
-not-D-le-U h = let l : 3 ≤ 2 = h fileE (0 ∷ 2 ∷ 0 ∷ 0 ∷ 1 ∷ 0 ∷ 1 ∷ 1 ∷ 0 ∷ []) 2 3 1 (papers .replayed) in omega arith
+not-D-le-U h = let l : 3 ≤ 2 = h fileE (0 ∷ 2 ∷ 0 ∷ 0 ∷ 1 ∷ 0 ∷ 2 ∷ 1 ∷ 1 ∷ 0 ∷ []) 2 3 1 (papers .replayed) in omega arith
 
 number01 : filePair fileE 0 1 ≡ 1
 unfolding nothing numbers decode blocksFrom
@@ -42,7 +45,7 @@ number10 = refl
 
 -- "every preemption costs its number"
 pub not-always-reached : ((sheet : List ℕ) (u d l : ℕ) → replayingOf fileE (0 ∷ 2 ∷ 0 ∷ 0 ∷ 1 ∷ sheet) ≡ Counted u d l → l ≡ filePair fileE 0 1) → ⊥
-not-always-reached h = let e = h (1 ∷ 1 ∷ 1 ∷ 0 ∷ []) 2 2 0 (papers .later) in omega (arith, e, number01)
+not-always-reached h = let e = h (1 ∷ 2 ∷ 1 ∷ 1 ∷ 0 ∷ []) 2 2 0 (papers .later) in omega (arith, e, number01)
 
 -- "who preempts whom does not matter"
 pub not-symmetric : ((s : List ℕ) → filePair s 0 1 ≡ filePair s 1 0) → ⊥
@@ -107,16 +110,16 @@ sameFile = fileOf 1 (map bodyBytes tasksSame)
 
 -- what Reader and Replay answer for them, and the pair numbers of the second and the third
 pub shared-answers : (readingOf gainFile ≡ Accepted 1 2) × (readingOf bothFile ≡ Accepted 2 2) × (readingOf sameFile ≡ Accepted 1 2)
-    × (replayingOf gainFile (0 ∷ 2 ∷ 0 ∷ 1 ∷ 1 ∷ 0 ∷ 1 ∷ 1 ∷ 0 ∷ []) ≡ Counted 1 0 0)
-    × (replayingOf bothFile (0 ∷ 2 ∷ 0 ∷ 1 ∷ 1 ∷ 0 ∷ 1 ∷ 1 ∷ 0 ∷ []) ≡ Counted 2 2 1)
-    × (replayingOf bothFile (0 ∷ 2 ∷ 0 ∷ 1 ∷ 1 ∷ 1 ∷ 1 ∷ 1 ∷ 0 ∷ []) ≡ Counted 2 2 0)
+    × (replayingOf gainFile (0 ∷ 2 ∷ 0 ∷ 1 ∷ 1 ∷ 0 ∷ 0 ∷ 1 ∷ 1 ∷ 0 ∷ []) ≡ Counted 1 0 0)
+    × (replayingOf bothFile (0 ∷ 2 ∷ 0 ∷ 1 ∷ 1 ∷ 0 ∷ 1 ∷ 1 ∷ 1 ∷ 0 ∷ []) ≡ Counted 2 2 1)
+    × (replayingOf bothFile (0 ∷ 2 ∷ 0 ∷ 1 ∷ 1 ∷ 1 ∷ 2 ∷ 1 ∷ 1 ∷ 0 ∷ []) ≡ Counted 2 2 0)
     × (filePair bothFile 0 1 ≡ 1) × (filePair sameFile 0 1 ≡ 0)
 unfolding nothing numbers decode blocksFrom parse afterPath preemptionsFrom
 shared-answers = (refl, refl, refl, refl, refl, refl, refl, refl)
 
 -- "U <= D"
 pub not-U-le-D : ((s sheet : List ℕ) (u d l : ℕ) → replayingOf s sheet ≡ Counted u d l → u ≤ d) → ⊥
-not-U-le-D h = let l : 1 ≤ 0 = h gainFile (0 ∷ 2 ∷ 0 ∷ 1 ∷ 1 ∷ 0 ∷ 1 ∷ 1 ∷ 0 ∷ []) 1 0 0 (shared-answers .3) in omega arith
+not-U-le-D h = let l : 1 ≤ 0 = h gainFile (0 ∷ 2 ∷ 0 ∷ 1 ∷ 1 ∷ 0 ∷ 0 ∷ 1 ∷ 1 ∷ 0 ∷ []) 1 0 0 (shared-answers .3) in omega arith
 
 -- "D - U reaches the number"
 pub not-D-reaches : ((s : List ℕ) (n t i j : ℕ) → readingOf s ≡ Accepted n t
@@ -128,3 +131,32 @@ not-D-reaches h = let (run, p, once, e) = h bothFile 2 2 0 1 (shared-answers .1)
 pub not-old-count : ((s : List ℕ) (n t i j : ℕ) → readingOf s ≡ Accepted n t → filePair s i j ≡ usedNumber (fileCache s) (task (tasksOf s) i) (task (tasksOf s) j)) → ⊥
 unfolding nothing numbers decode blocksFrom
 not-old-count h = let e : _≡_ {A = ℕ} 0 1 = h sameFile 1 2 0 1 (shared-answers .2) in omega arith
+
+-- ---- preemptions between two references
+
+abbrev twiceFile : List ℕ
+twiceFile = fileOf 1 (map bodyBytes tasksTwice)
+
+abbrev enteredFile : List ℕ
+enteredFile = fileOf 1 (map bodyBytes tasksEntered)
+
+-- what Reader and Replay answer for them, and their pair numbers; a preemption before the first reference is no point
+pub point-answers : (readingOf twiceFile ≡ Accepted 1 2) × (readingOf enteredFile ≡ Accepted 1 2)
+    × (replayingOf twiceFile (0 ∷ 1 ∷ 0 ∷ 1 ∷ 0 ∷ 1 ∷ 1 ∷ 1 ∷ 0 ∷ []) ≡ Counted 1 2 1)
+    × (replayingOf enteredFile (0 ∷ 2 ∷ 0 ∷ 1 ∷ 1 ∷ 1 ∷ 0 ∷ 1 ∷ 1 ∷ 0 ∷ []) ≡ Refused 13 255)
+    × (filePair twiceFile 0 1 ≡ 1) × (filePair enteredFile 0 1 ≡ 0)
+unfolding nothing numbers decode blocksFrom parse afterPath preemptionsFrom
+point-answers = (refl, refl, refl, refl, refl, refl)
+
+-- "block ends are enough"
+pub not-ends-enough : ((s : List ℕ) (n t i j x : ℕ) → readingOf s ≡ Accepted n t → NumberAtEnds (fileCache s) (task (tasksOf s) i) (task (tasksOf s) j) x
+    → (run : DisturbedRun (tasksOf s)) → run .p ≡ i → OnceBy j (run .preemptions) → fileLost s run ≤ x) → ⊥
+unfolding nothing numbers decode blocksFrom
+not-ends-enough h = omega (arith, between-counts .2, h twiceFile 1 2 0 1 0 (point-answers .0) ends-0 betweenTwo refl (byTask1 0 1, refl, refl))
+
+-- "a point before the first reference counts"
+pub not-before : ((s : List ℕ) (n t i j : ℕ) → readingOf s ≡ Accepted n t
+    → (run : DisturbedRun (tasksOf s)) × (run .p ≡ i) × OnceBy j (run .preemptions)
+    × (fileLost s run ≡ most (usefulReplaced (fileCache s)) (fileCache s) (task (tasksOf s) i) (task (tasksOf s) j) (fromZero (task (tasksOf s) i)))) → ⊥
+unfolding nothing numbers decode blocksFrom
+not-before h = let (run, p, once, e) = h enteredFile 1 2 0 1 (point-answers .1) in not-before-first run p once e

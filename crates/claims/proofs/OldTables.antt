@@ -1,4 +1,5 @@
--- A file that passes checks 2 to 9, and of which no two tasks share a memory block, as the old check 10 asked, has its old table: `old-tables`.
+-- A file that passes checks 2 to 9, and of which no two tasks share a memory block, as the old check 10 asked, has the same table by the count before
+-- Point 5: `old-tables`.
 -- The idea: two such tasks have the same number by both counts, place by place.
 use mathlib.Core.Path.{_≡_, refl, ap, ap₂}
 use mathlib.Core.Bool.{Bool, true, false, _&&_, not, cond}

@@ -27,17 +27,18 @@ preemptions-same [] [] e q = refl
 preemptions-same [] (y ∷ ys) e q = absurd (omega arith)
 preemptions-same (x ∷ xs) [] e q = absurd (omega arith)
 preemptions-same (x ∷ xs) (y ∷ ys) e q =
-    let a : x .point ≡ y .point = ap (λ l. getD l 0 0) q in
-    let b : x .by ≡ y .by = ap (λ l. getD l 1 0) q in
-    let c : length (x .path) ≡ length (y .path) = ap (λ l. getD l 2 0) q in
-    let (p, r) = append-split (x .path) (preemptionNumbers xs) (y .path) (preemptionNumbers ys) c (ap (drop 3) q) in
-    same x y a b p (preemptions-same xs ys (omega arith) r)
+    let a : x .position ≡ y .position = ap (λ l. getD l 0 0) q in
+    let d : x .done ≡ y .done = ap (λ l. getD l 1 0) q in
+    let b : x .by ≡ y .by = ap (λ l. getD l 2 0) q in
+    let c : length (x .path) ≡ length (y .path) = ap (λ l. getD l 3 0) q in
+    let (p, r) = append-split (x .path) (preemptionNumbers xs) (y .path) (preemptionNumbers ys) c (ap (drop 4) q) in
+    same x y a d b p (preemptions-same xs ys (omega arith) r)
   where
-    one : (x y : Preemption) → x .point ≡ y .point → x .by ≡ y .by → x .path ≡ y .path → x ≡ y
-    one x y a b p = rw (a, b, p)
+    one : (x y : Preemption) → x .position ≡ y .position → x .done ≡ y .done → x .by ≡ y .by → x .path ≡ y .path → x ≡ y
+    one x y a d b p = rw (a, d, b, p)
 
-    same : (x y : Preemption) → x .point ≡ y .point → x .by ≡ y .by → x .path ≡ y .path → xs ≡ ys → x ∷ xs ≡ y ∷ ys
-    same x y a b p t = rw (one x y a b p, t)
+    same : (x y : Preemption) → x .position ≡ y .position → x .done ≡ y .done → x .by ≡ y .by → x .path ≡ y .path → xs ≡ ys → x ∷ xs ≡ y ∷ ys
+    same x y a d b p t = rw (one x y a d b p, t)
 
 -- a sheet is the numbers of one run only
 sheet-same : (r q : SheetRun) → sheetNumbers r ≡ sheetNumbers q → (r .p ≡ q .p) × (r .path ≡ q .path) × (r .preemptions ≡ q .preemptions)

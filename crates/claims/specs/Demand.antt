@@ -1,4 +1,4 @@
--- Demand 3 over files and calls, with document 02, Points 1 and 5, as one claim about an accepted file. Definitions only.
+-- Demand 3 over files and calls, with document 02, Points 1, 5 and 6, as one claim about an accepted file. Definitions only.
 use mathlib.Core.Path.{_≡_}
 use mathlib.Core.Logic.{_≢_}
 use mathlib.Core.List.{List}
@@ -25,7 +25,7 @@ TableEntries s =
     (area : Area) (table : List ℕ) → tableAnswer 16 s area table ≡ Filled → (i j : ℕ) → i < taskCount s → j < taskCount s → j ≢ i
     → getD (tableAfter 16 s area table) (8 * i + j) 0 ≡ filePair s i j
 
--- "Its pair numbers are those defined above": over the rows that paths make
+-- "Its pair numbers are those defined above": over the rows that paths make, at the points of Point 6
 abbrev pub NumbersOfPaths : File → Type 0
 NumbersOfPaths s = (i j : ℕ) → PairNumber (fileCache s) (task (tasksOf s) i) (task (tasksOf s) j) (filePair s i j)
 

@@ -1,4 +1,5 @@
--- Document 01, "Proved together (P)", over files and what the calls answer for them, with the third number of document 02, Point 5. Definitions only.
+-- Document 01, "Proved together (P)", over files and what the calls answer for them, with the third number of document 02, Point 5, and the points of
+-- Point 6. Definitions only.
 use mathlib.Core.Path.{_≡_}
 use mathlib.Core.List.{List, [], _∷_}
 use Prim.Native.Nat.{ℕ, suc}
@@ -40,15 +41,16 @@ pub record Papers : Type 0 where
   -- "E's two entries"
   pub entryE01 : TableHolds fileE 1 1
   pub entryE10 : TableHolds fileE 8 0
-  -- "replay of 0, 2, 0, 0, 1, 0, 1, 1, 0 gives U = 2, D = 3"
-  pub replayed : replayingOf fileE (0 ∷ 2 ∷ 0 ∷ 0 ∷ 1 ∷ 0 ∷ 1 ∷ 1 ∷ 0 ∷ []) ≡ Counted 2 3 1
+  -- "replay of 0, 2, 0, 0, 1, 0, 1, 1, 0 gives U = 2, D = 3"; how many references are done comes after the position: Point 6, "In E's replays that
+  -- number is 2."
+  pub replayed : replayingOf fileE (0 ∷ 2 ∷ 0 ∷ 0 ∷ 1 ∷ 0 ∷ 2 ∷ 1 ∷ 1 ∷ 0 ∷ []) ≡ Counted 2 3 1
   -- "the same with count 0 and nothing after gives 2 and 2"
   pub quiet : replayingOf fileE (0 ∷ 2 ∷ 0 ∷ 0 ∷ 0 ∷ []) ≡ Counted 2 2 0
   -- "the point moved to 1 gives 2 and 2"
-  pub later : replayingOf fileE (0 ∷ 2 ∷ 0 ∷ 0 ∷ 1 ∷ 1 ∷ 1 ∷ 1 ∷ 0 ∷ []) ≡ Counted 2 2 0
+  pub later : replayingOf fileE (0 ∷ 2 ∷ 0 ∷ 0 ∷ 1 ∷ 1 ∷ 2 ∷ 1 ∷ 1 ∷ 0 ∷ []) ≡ Counted 2 2 0
   -- "its reaching counts 4, 1, 3, 3 and live counts 4, 4, 4, 4"
   pub figureCounts : StatesCount figureAndBlock (4 ∷ 1 ∷ 3 ∷ 3 ∷ []) (4 ∷ 4 ∷ 4 ∷ 4 ∷ [])
-  -- "number 3 against one block reading 8, 9, 10, 11, and 2 against a fork reading 8, 10 or 8, 9"
+  -- "number 3 against one block reading 8, 9, 10, 11, and 2 against a fork reading 8, 10 or 8, 9"; over the points of Point 6 they are these again
   pub againstBlock : TableHolds figureAndBlock 1 3
   pub againstFork : TableHolds figureAndFork 1 2
   -- "Five forks pass check 11.": both in States and in Table

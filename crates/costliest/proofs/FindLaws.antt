@@ -22,8 +22,8 @@ pub file-trails : (k : Cache) (s : List ℕ) (j : ℕ) → accepted (readingOf s
 file-trails k s j ok inside body area reached lived to on full e h = subst (λ (t : Task). AreaTrails k t area reached lived to on full) (body-task s j (task-body s ok j inside) e) h
 
 -- what is found in the parts of an area as the code cuts them, and among these end rows
-pub searched-parts : (w set blocks : ℕ) (reached lived : List ℕ) (fs : List (List ℕ)) {rows rows′ live live′ : List ℕ} (r : Found) → rows ≡ rows′ → live ≡ live′
-    → Searched set (heldRows w rows reached) (heldRows w live lived) fs blocks r → Searched set (heldRows w rows′ reached) (heldRows w live′ lived) fs blocks r
-searched-parts w set blocks reached lived fs {rows} {rows′} {live} {live′} r er el h =
-    subst (λ (x : List ℕ). Searched set (heldRows w rows′ reached) (heldRows w x lived) fs blocks r) el
-    (subst (λ (x : List ℕ). Searched set (heldRows w x reached) (heldRows w live lived) fs blocks r) er h)
+pub searched-parts : (k : Cache) (t : Task) (w : ℕ) (reached lived : List ℕ) (fs : List (List ℕ)) {rows rows′ live live′ : List ℕ} (r : Found) → rows ≡ rows′ → live ≡ live′
+    → Searched k t (heldRows w rows reached) (heldRows w live lived) fs r → Searched k t (heldRows w rows′ reached) (heldRows w live′ lived) fs r
+searched-parts k t w reached lived fs {rows} {rows′} {live} {live′} r er el h =
+    subst (λ (x : List ℕ). Searched k t (heldRows w rows′ reached) (heldRows w x lived) fs r) el
+    (subst (λ (x : List ℕ). Searched k t (heldRows w x reached) (heldRows w live lived) fs r) er h)

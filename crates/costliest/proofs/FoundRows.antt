@@ -1,6 +1,6 @@
 -- The rows that are found among the states of two tasks make the pair number: `found-makes`.
 -- The idea: the states in the areas are those of the tasks, and since every block lies on a complete path, each has one of either kind.
-use mathlib.Core.Path.{_≡_, refl, sym, _∙_}
+use mathlib.Core.Path.{_≡_, refl, sym, subst, _∙_}
 use mathlib.Core.Bool.{true, false, false≢true}
 use mathlib.Core.List.{List, [], _∷_}
 use Prim.Native.Nat.{ℕ, suc, _+_, _*_, _-_, _≤_, _<_}
@@ -12,8 +12,6 @@ use Rattle.model.specs.Tasks.{Task, end, references, task, Rules}
 use Rattle.model.specs.Computed.{sameList, reaching, living}
 use Rattle.model.proofs.OnPath.{to-and-from}
 use Rattle.model.proofs.Sorted.{reaching-rows, living-rows}
-use Rattle.body.specs.Jumps.{unmaskedSet}
-use Rattle.body.proofs.JumpLaws.{in-unmasked}
 use Rattle.project.specs.File.{cacheBlocks, taskCount}
 use Rattle.project.specs.Reading.{readingOf}
 use Rattle.project.specs.Bodies.{accepted}
@@ -64,15 +62,14 @@ module _ (k : Cache) (ts : List Task) (rules : Rules ts) (i j : ℕ) (hi : i < l
   end-inside : end (task ts j) < length (task ts j)
   end-inside = omega (arith, rules .some j hj)
 
-  pub found-makes : {set : ℕ} → set ≡ unmaskedSet (task ts i) → (x : Found)
-      → Searched set (heldRows (k .width) (take (kindLength (k .width)) area) reached) (heldRows (k .width) (take (kindLength (k .width)) (drop (kindLength (k .width)) area)) lived)
-      (heldRows (k .width) (take (kindLength (k .width)) others) ended (end (task ts j))) (length (task ts i)) x
+  pub found-makes : (x : Found)
+      → Searched k (task ts i) (heldRows (k .width) (take (kindLength (k .width)) area) reached)
+      (heldRows (k .width) (take (kindLength (k .width)) (drop (kindLength (k .width)) area)) lived) (heldRows (k .width) (take (kindLength (k .width)) others) ended (end (task ts j))) x
       → MakesNumber k (task ts i) (task ts j) (heldRows (k .width) (take (kindLength (k .width)) area) reached)
       (heldRows (k .width) (take (kindLength (k .width)) (drop (kindLength (k .width)) area)) lived) (heldRows (k .width) (take (kindLength (k .width)) others) ended (end (task ts j))) x
-  found-makes {set} marked x searched =
-      makes-number k (task ts i) (task ts j) set (heldRows (k .width) (take kind area) reached) (heldRows (k .width) (take kind (drop kind area)) lived)
-      (heldRows (k .width) (take kind others) ended (end (task ts j)))
-      (λ b h. rw marked (in-unmasked (task ts i) b h))
+  found-makes x searched =
+      makes-number k (task ts i) (task ts j) (heldRows (k .width) (take kind area) reached) (heldRows (k .width) (take kind (drop kind area)) lived)
+      (heldRows (k .width) (take kind others) ended (end (task ts j))) few-i (rules .real i)
       (λ b h. held-sorted b (own .rows .rows .reached refl b (omega arith)))
       (λ b h. held-sorted b (own .rows .rows .lived refl b (omega arith)))
       (held-sorted (end (task ts j)) (other .rows .rows .reached refl (end (task ts j)) (omega (arith, end-inside))))
@@ -89,23 +86,25 @@ all-bytes [] h = tt
 all-bytes (x ∷ s) h = (h 0, all-bytes s (λ a. h (suc a)))
 
 module _ (s : List ℕ) (bytes : Bytes s) (ok : accepted (readingOf s) ≡ true) (w i j : ℕ) (hi : i < taskCount s) (hj : j < taskCount s) where
-  -- the rows that the code finds, where `end-block` is the end block of j
+  -- the rows that the code finds, where t is the task i, k the cache in rows of w places, and `end-block` the end block of j
   pub file-found : {area reached lived to on others ended lived-j to-j on-j : List ℕ} → AreaTrails (fileCacheIn w s) (task (tasksOf s) i) area reached lived to on false
-      → AreaTrails (fileCacheIn w s) (task (tasksOf s) j) others ended lived-j to-j on-j false → {set blocks end-block : ℕ} {part : List ℕ} → set ≡ unmaskedSet (task (tasksOf s) i)
-      → blocks ≡ length (task (tasksOf s) i) → end-block ≡ end (task (tasksOf s) j) → part ≡ take (32 * w) (drop (32 * w * end-block) others) → (x : Found)
-      → Searched set (heldRows w (take (kindLength w) area) reached) (heldRows w (take (kindLength w) (drop (kindLength w) area)) lived)
-      (rowsOf w (getD ended end-block 0) part) blocks x
+      → AreaTrails (fileCacheIn w s) (task (tasksOf s) j) others ended lived-j to-j on-j false → {k : Cache} {t : Task} {end-block : ℕ} {part : List ℕ} → k ≡ fileCacheIn w s
+      → t ≡ task (tasksOf s) i → end-block ≡ end (task (tasksOf s) j) → part ≡ take (32 * w) (drop (32 * w * end-block) others) → (x : Found)
+      → Searched k t (heldRows w (take (kindLength w) area) reached) (heldRows w (take (kindLength w) (drop (kindLength w) area)) lived)
+      (rowsOf w (getD ended end-block 0) part) x
       → MakesNumber (fileCacheIn w s) (task (tasksOf s) i) (task (tasksOf s) j) (heldRows w (take (kindLength w) area) reached)
       (heldRows w (take (kindLength w) (drop (kindLength w) area)) lived) (heldRows w (take (kindLength w) others) ended (end (task (tasksOf s) j))) x
-  file-found {area = area} {reached = reached} {lived = lived} {others = others} {ended = ended} own other {set} {blocks} {end-block = e} {part} marked counted ends cut x searched =
+  file-found {area = area} {reached = reached} {lived = lived} {others = others} {ended = ended} own other {k} {t} {end-block = e} {part} cached is ends cut x searched =
       let rules = file-rules s bytes (cacheBlocks s) (taskCount s) (reading s ok) in
       let few = task-bounds s j ok hj .few in
       let some = task-bounds s j ok hj .some in
       let rows : part ≡ partOf w (take (kindLength w) others) e = cut ∙ end-part w e others (omega (arith, few, some, ends)) in
-      let found : Searched set (heldRows w (take (kindLength w) area) reached) (heldRows w (take (kindLength w) (drop (kindLength w) area)) lived)
-      (heldRows w (take (kindLength w) others) ended (end (task (tasksOf s) j))) (length (task (tasksOf s) i)) x
-      = rw (rows, ends, counted) at searched in
-      found-makes (fileCacheIn w s) (tasksOf s) rules i j (rw (tasks-long s) hi) (rw (tasks-long s) hj) (task-bounds s i ok hi .few) few own other marked x found
+      let rs = heldRows w (take (kindLength w) area) reached in
+      let ls = heldRows w (take (kindLength w) (drop (kindLength w) area)) lived in
+      let found : Searched k t rs ls (heldRows w (take (kindLength w) others) ended (end (task (tasksOf s) j))) x = rw (rows, ends) at searched in
+      found-makes (fileCacheIn w s) (tasksOf s) rules i j (rw (tasks-long s) hi) (rw (tasks-long s) hj) (task-bounds s i ok hi .few) few own other x
+      (subst (λ (c : Cache). Searched c (task (tasksOf s) i) rs ls (heldRows w (take (kindLength w) others) ended (end (task (tasksOf s) j))) x) cached
+      (subst (λ (u : Task). Searched k u rs ls (heldRows w (take (kindLength w) others) ended (end (task (tasksOf s) j))) x) is found))
 
 -- a part that was lent, as the code cuts it
 pub cut-part : (n a : ℕ) (l : List ℕ) → take (a + n - a) (drop a l) ≡ take n (drop a l)

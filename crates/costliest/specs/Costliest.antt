@@ -1,4 +1,5 @@
--- Document 02, Point 3, "Show me the run that costs most.", and Point 5: Costliest run, its checks and its answer, for rows of w places. Definitions only.
+-- Document 02, Point 3, "Show me the run that costs most.", and Points 5 and 6: Costliest run, its checks and its answer, for rows of w places.
+-- Definitions only.
 use mathlib.Core.Path.{_≡_}
 use mathlib.Core.Logic.{_≢_, _⊎_}
 use mathlib.Core.Bool.{Bool, not, _&&_, _||_, cond}
@@ -39,7 +40,7 @@ test18 t i j = eqb i j || (leb t i || leb t j)
 abbrev pub Fault18 : ℕ → ℕ → ℕ → Type 0
 Fault18 t i j = (i ≡ j) ⊎ ((i < t → ⊥) ⊎ (j < t → ⊥))
 
--- check 19: "the lent sheet shorter than 2,310"
+-- check 19: "the lent sheet shorter than 2,310"; Point 6: "the sheet of Point 3 grows to 2,311 numbers"
 abbrev pub test19 : Sheet → Bool
 test19 sheet = ltb (length sheet) costliestSheetLength
 
@@ -89,7 +90,7 @@ pub record Costliest (s : File) (i j : ℕ) (run : DisturbedRun (tasksOf s)) : T
   pub fits : Fits (tasksOf s) run
   pub costs : lostHits (fileCache s) run ≡ filePair s i j
 
--- "Which such run is written is left free; its length is answered, and places after it keep their contents."; it never has more than 2,310 numbers
+-- "Which such run is written is left free; its length is answered, and places after it keep their contents."; it never has more than 2,311 numbers
 pub record WrittenRun (s : File) (i j : ℕ) (old : Sheet) (answer : Writing) (new : Sheet) : Type 0 where
   pub run : DisturbedRun (tasksOf s)
   pub costliest : Costliest s i j run

@@ -1,10 +1,12 @@
-// The states of two tasks with their trails, and the rows among them that make the pair number.
+// The states of two tasks with their trails, and the point and the rows among them that make the pair number.
 ghost use mathlib.Core.Path.{_≡_};
 ghost use mathlib.Core.Bool.{true};
 ghost use Prim.Native.Nat.{_*_, _≤_, _<_};
 ghost use lib.ListN.{length, take, drop};
 ghost use Rattle.cache.specs.Shape.{shaped, Holds};
 ghost use Rattle.model.specs.Tasks.{task};
+ghost use Rattle.body.specs.Decode.{decode, taskOf};
+ghost use Rattle.body.specs.Walk.{keptOf};
 ghost use Rattle.rows.specs.Rows.{Width, rowsOf, kindLength, areaLength};
 ghost use Rattle.gather.specs.Memory.{Memory, heldRows};
 ghost use Rattle.project.specs.File.{taskCount};
@@ -65,28 +67,29 @@ pub fn find_trails(
     }
 }
 
-// The block of a task among the unmasked ones, the reaching and the live row of it in a work area, and the end row of another task that cost most; which
-// of several is left open. `ends` begins with the `ended` rows of the other task's end block.
+// The point of an unmasked block of a body, the rows there in a work area, and the end row of another task that cost most; which of several is left open.
+// `ends` begins with the `ended` rows of the other task's end block.
 pub fn find_rows(
+    body: &[u8],
+    shape: CacheShape,
     w: usize,
-    blocks: usize,
-    unmasked: u32,
     area: &[u16],
     reached: [usize; 24],
     lived: [usize; 24],
     ends: &[u16],
     ended: usize,
 ) -> Found
-    requires { ⌜ (blocks ≤ 24) × (length (now area) ≡ areaLength w) × Memory w (take (kindLength w) (now area)) reached
+    requires { ⌜ (keptOf (decode (now body)) ≡ true) × Holds w shape × (length (now area) ≡ areaLength w)
+        × Memory w (take (kindLength w) (now area)) reached
         × Memory w (take (kindLength w) (drop (kindLength w) (now area))) lived × (length (now ends) ≡ 32 * w) × (ended ≤ 32) ⌝ }
-    ensures { λ r. ⌜ Searched unmasked (heldRows w (take (kindLength w) (now (area .entry))) reached)
-        (heldRows w (take (kindLength w) (drop (kindLength w) (now (area .entry)))) lived) (rowsOf w ended (now (ends .entry))) blocks r ⌝ }
+    ensures { λ r. ⌜ Searched (shaped w shape) (taskOf (decode (now (body .entry)))) (heldRows w (take (kindLength w) (now (area .entry))) reached)
+        (heldRows w (take (kindLength w) (drop (kindLength w) (now (area .entry)))) lived) (rowsOf w ended (now (ends .entry))) r ⌝ }
 {
     let kind = 24 * (32 * w);
     search(
+        body,
+        shape,
         w,
-        blocks,
-        unmasked,
         &area[0..kind],
         &reached,
         &area[kind..kind + kind],

@@ -8,7 +8,7 @@ ghost use lib.ListN.{length};
 ghost use Rattle.cache.specs.Shape.{Holds};
 ghost use Rattle.model.specs.Tasks.{task};
 ghost use Rattle.rows.specs.Rows.{Width, areaLength};
-ghost use Rattle.project.specs.File.{cacheBlocks, taskCount};
+ghost use Rattle.project.specs.File.{taskCount};
 ghost use Rattle.project.specs.Reading.{headCheck, readingOf};
 ghost use Rattle.project.specs.Bodies.{accepted};
 ghost use Rattle.project.specs.Checklist.{verdictOf};
@@ -18,7 +18,6 @@ ghost use Rattle.run_sheet.specs.Joined.{costliestSheetLength};
 ghost use Rattle.costliest.specs.Costliest.{test18, askedChecks, twoCheck, twoChecks, costliestCheck, WrittenRun, CostliestAnswer};
 use area::AREA_LENGTH;
 use body::block_count;
-use body::masks::unmasked_blocks;
 use cache::blocks::CacheShape;
 use cache::numbers::byte_count;
 use find::TaskTrails;
@@ -34,9 +33,9 @@ use reader::read_bodies;
 use reader::task_body;
 use run_sheet::write_sheet;
 
-// The fewest numbers of a lent sheet (check 19). The longest sheet that is written has 2,309: task, path length and 1,535 blocks at most, count,
-// point, task, path length and 768 blocks at most.
-pub const COSTLIEST_SHEET_LENGTH: usize = 2310;
+// The fewest numbers of a lent sheet (check 19). The longest sheet that is written has as many: task, path length and 1,536 blocks at most, count,
+// position, references done, task, path length and 768 blocks at most.
+pub const COSTLIEST_SHEET_LENGTH: usize = 2311;
 
 // Checks 18 and 19, in a file of this many tasks.
 fn check_asked(i: usize, j: usize, tasks: usize, sheet: &[u16]) -> Check
@@ -75,6 +74,7 @@ fn check_two(i: usize, own: bool, j: usize, other: bool) -> Check
 // `other`. Which such run is left open.
 fn write_run(
     file: &[u8],
+    shape: CacheShape,
     w: usize,
     i: usize,
     j: usize,
@@ -84,15 +84,13 @@ fn write_run(
     other: TaskTrails,
     sheet: &mut [u16],
 ) -> Writing
-    requires { ⌜ (accepted (readingOf (now file)) ≡ true) × (cacheBlocks (now file) ≤ w) × (test18 (taskCount (now file)) i j ≡ false)
+    requires { ⌜ (accepted (readingOf (now file)) ≡ true) × (shape ≡ fileShape (now file)) × Holds w shape × (test18 (taskCount (now file)) i j ≡ false)
         × (costliestSheetLength ≤ length (now sheet))
         × AreaTrails (fileCacheIn w (now file)) (task (tasksOf (now file)) i) (now first) (own .reached) (own .lived) (own .to) (own .on) false
         × AreaTrails (fileCacheIn w (now file)) (task (tasksOf (now file)) j) (now second) (other .reached) (other .lived) (other .to) (other .on) false ⌝ }
     ensures { λ r. ⌜ WrittenRun (now (file .entry)) i j (now (sheet .entry)) r (now (sheet .exit)) ⌝ }
 {
     let body = task_body(file, i);
-    let unmasked = unmasked_blocks(body);
-    let blocks = block_count(body);
     let end = block_count(task_body(file, j)) - 1;
     let part = 32 * w;
     let at = part * end;
@@ -100,9 +98,9 @@ fn write_run(
     let lived = own.lived;
     let ended = other.reached;
     let found = find_rows(
+        body,
+        shape,
         w,
-        blocks,
-        unmasked,
         first,
         reached,
         lived,
@@ -112,15 +110,17 @@ fn write_run(
     let to = own.to;
     let on = own.on;
     let by = other.to;
-    let b = found.block;
+    let point = found.point;
     let length = write_sheet(
-        unmasked & (1 << b) != 0,
+        0 < found.cost,
         i as u16,
         j as u16,
+        point.first,
         &to,
-        32 * b + found.reaching,
+        32 * point.before + point.reaching,
+        point.done as u16,
         &on,
-        32 * b + found.live,
+        32 * point.block + found.live,
         &by,
         32 * end + found.ending,
         sheet,
@@ -150,7 +150,7 @@ fn run_of_two(
     let other = find_trails(file, shape, w, j, second);
     match check_two(i, own.full, j, other.full) {
         Check::Refused { check, task } => Writing::Refused { check, task },
-        Check::Passed => write_run(file, w, i, j, first, own, second, other, sheet),
+        Check::Passed => write_run(file, shape, w, i, j, first, own, second, other, sheet),
     }
 }
 
@@ -186,9 +186,9 @@ fn run_of_bodies(
     }
 }
 
-// Costliest run: the sheet of a run of task i with one preemption by task j, or with none where i has no unmasked block, whose D is U plus the pair
-// number, or the check that fails first. Which such run is left open, and so is what the work areas hold afterwards. The first bytes are checked here,
-// so that a file that they refuse costs no call.
+// Costliest run: the sheet of a run of task i with one preemption by task j, or with none where i has no unmasked block, that loses as many hits as the
+// pair number, or the check that fails first. Which such run is left open, and so is what the work areas hold afterwards. The first bytes are checked
+// here, so that a file that they refuse costs no call.
 pub fn costliest_run(
     file: &[u8],
     i: usize,

@@ -174,6 +174,18 @@ pub const SHARED_SAME: [u8; 31] = *b"CRPD\x01\x01\x02\x00\
     \x01\x00\x00\x01\x01\x00\x02\x00\
     \x01\x00\x00\x00\x01\x02\x00";
 
+// Document 02, Point 6: one block of task 0 reads 6 twice; task 1 reads 4, n = 1.
+pub const TWICE: [u8; 32] = *b"CRPD\x01\x01\x02\x00\
+    \x10\x00\x09\x00\x19\x00\x07\x00\
+    \x01\x00\x00\x00\x02\x06\x00\x06\x00\
+    \x01\x00\x00\x00\x01\x04\x00";
+
+// Task 0 reads 6 in a masked block and then in another; task 1 reads 4, n = 1.
+pub const ENTERED: [u8; 36] = *b"CRPD\x01\x01\x02\x00\
+    \x10\x00\x0D\x00\x1D\x00\x07\x00\
+    \x02\x00\x01\x01\x01\x01\x06\x00\x00\x00\x01\x06\x00\
+    \x01\x00\x00\x00\x01\x04\x00";
+
 // File E with another byte.
 pub fn with_byte(at: usize, value: u8) -> [u8; 33]
     requires { ⌜ at < 33 ⌝ }

@@ -1,13 +1,15 @@
-// Runs document 01's examples of project files, and those of document 02, Points 1, 3 and 5, and prints what each call answers.
+// Runs document 01's examples of project files, and those of document 02, Points 1, 3, 5 and 6, and prints what each call answers.
 ghost use mathlib.Core.Path.{_≡_};
 ghost use Prim.Native.Nat.{_≤_, _<_};
 ghost use lib.ListN.{length};
 use example_files::APART;
 use example_files::E;
+use example_files::ENTERED;
 use example_files::MASKED;
 use example_files::SHARED_BOTH;
 use example_files::SHARED_GAIN;
 use example_files::SHARED_SAME;
+use example_files::TWICE;
 use example_files::with_byte;
 use libc::STDOUT_FILENO;
 use project::answers::Filling;
@@ -218,11 +220,17 @@ fn show_long_path(name: &[u8], blocks: usize)
     show_replay(name, &sheet[0..blocks + 3]);
 }
 
-// The replays of document 01.
+// The replays of document 01, where both references of the block are done.
 fn show_replays() {
-    show_replay(b"0, 2, 0, 0, 1, 0, 1, 1, 0", &[0, 2, 0, 0, 1, 0, 1, 1, 0]);
+    show_replay(
+        b"0, 2, 0, 0, 1, 0, 2, 1, 1, 0",
+        &[0, 2, 0, 0, 1, 0, 2, 1, 1, 0],
+    );
     show_replay(b"0, 2, 0, 0, 0", &[0, 2, 0, 0, 0]);
-    show_replay(b"0, 2, 0, 0, 1, 1, 1, 1, 0", &[0, 2, 0, 0, 1, 1, 1, 1, 0]);
+    show_replay(
+        b"0, 2, 0, 0, 1, 1, 2, 1, 1, 0",
+        &[0, 2, 0, 0, 1, 1, 2, 1, 1, 0],
+    );
 }
 
 // Sheets that are not laid out as one.
@@ -238,20 +246,84 @@ fn show_sheets() {
 // Sheets with a preemption behind the path, out of order, at the point of another, or by the task itself.
 fn show_preemptions() {
     show_replay(
-        b"0, 1, 0, 1, 1, 1, 1, 0: a point behind the path",
-        &[0, 1, 0, 1, 1, 1, 1, 0],
+        b"0, 1, 0, 1, 1, 2, 1, 1, 0: a position behind the path",
+        &[0, 1, 0, 1, 1, 2, 1, 1, 0],
     );
     show_replay(
-        b"0, 2, 0, 0, 2, 1, 1, 1, 0, 0, 1, 1, 0: a falling point",
-        &[0, 2, 0, 0, 2, 1, 1, 1, 0, 0, 1, 1, 0],
+        b"0, 2, 0, 0, 2, 1, 2, 1, 1, 0, 0, 2, 1, 1, 0: a falling position",
+        &[0, 2, 0, 0, 2, 1, 2, 1, 1, 0, 0, 2, 1, 1, 0],
     );
     show_replay(
-        b"0, 2, 0, 0, 2, 0, 1, 1, 0, 0, 1, 1, 0: equal points",
-        &[0, 2, 0, 0, 2, 0, 1, 1, 0, 0, 1, 1, 0],
+        b"0, 2, 0, 0, 2, 0, 2, 1, 1, 0, 0, 2, 1, 1, 0: equal points",
+        &[0, 2, 0, 0, 2, 0, 2, 1, 1, 0, 0, 2, 1, 1, 0],
     );
     show_replay(
-        b"0, 1, 0, 1, 0, 0, 1, 0: preempted by itself",
-        &[0, 1, 0, 1, 0, 0, 1, 0],
+        b"0, 1, 0, 1, 0, 2, 0, 1, 0: preempted by itself",
+        &[0, 1, 0, 1, 0, 2, 0, 1, 0],
+    );
+}
+
+// Preemptions between two references, and where a wrong number of references is done.
+fn show_done() {
+    show_replay(
+        b"0, 2, 0, 0, 1, 0, 1, 1, 1, 0: between two references",
+        &[0, 2, 0, 0, 1, 0, 1, 1, 1, 0],
+    );
+    show_replay(
+        b"0, 2, 0, 0, 1, 0, 0, 1, 1, 0: before the first reference",
+        &[0, 2, 0, 0, 1, 0, 0, 1, 1, 0],
+    );
+    show_replay(
+        b"0, 2, 0, 0, 1, 0, 3, 1, 1, 0: more references than the block has",
+        &[0, 2, 0, 0, 1, 0, 3, 1, 1, 0],
+    );
+    show_replay(
+        b"0, 2, 0, 0, 1, 2, 2, 1, 1, 0: a position behind the path",
+        &[0, 2, 0, 0, 1, 2, 2, 1, 1, 0],
+    );
+}
+
+// Two preemptions: fewer references done at the same position, also where the number is wrong, and at the next position.
+fn show_two_points() {
+    show_replay(
+        b"0, 2, 0, 0, 2, 0, 2, 1, 1, 0, 0, 1, 1, 1, 0: a falling number of references",
+        &[0, 2, 0, 0, 2, 0, 2, 1, 1, 0, 0, 1, 1, 1, 0],
+    );
+    show_replay(
+        b"0, 2, 0, 0, 2, 0, 9, 1, 1, 0, 0, 2, 1, 1, 0: a wrong and falling one",
+        &[0, 2, 0, 0, 2, 0, 9, 1, 1, 0, 0, 2, 1, 1, 0],
+    );
+    show_replay(
+        b"0, 2, 0, 0, 2, 0, 2, 1, 1, 0, 1, 1, 1, 1, 0: fewer at the next position",
+        &[0, 2, 0, 0, 2, 0, 2, 1, 1, 0, 1, 1, 1, 1, 0],
+    );
+}
+
+// Files where the points of a block matter: one reads a memory block twice, in the other a masked block comes first.
+fn show_points() {
+    show_replay_on(
+        b"one memory block read twice",
+        &TWICE,
+        b"0, 1, 0, 1, 0, 1, 1, 1, 0",
+        &[0, 1, 0, 1, 0, 1, 1, 1, 0],
+    );
+    show_replay_on(
+        b"one memory block read twice",
+        &TWICE,
+        b"0, 1, 0, 1, 0, 2, 1, 1, 0",
+        &[0, 1, 0, 1, 0, 2, 1, 1, 0],
+    );
+    show_replay_on(
+        b"a masked block, then the same reference,",
+        &ENTERED,
+        b"0, 2, 0, 1, 1, 1, 0, 1, 1, 0",
+        &[0, 2, 0, 1, 1, 1, 0, 1, 1, 0],
+    );
+    show_replay_on(
+        b"a masked block, then the same reference,",
+        &ENTERED,
+        b"0, 2, 0, 1, 1, 1, 1, 1, 1, 0",
+        &[0, 2, 0, 1, 1, 1, 1, 1, 1, 0],
     );
 }
 
@@ -263,8 +335,8 @@ fn show_paths() {
     show_replay(b"0, 1, 65535, 0", &[0, 1, 65535, 0]);
     show_replay(b"1, 2, 0, 0, 0: no such jump", &[1, 2, 0, 0, 0]);
     show_replay(
-        b"0, 2, 0, 0, 1, 0, 1, 1, 1: no such block",
-        &[0, 2, 0, 0, 1, 0, 1, 1, 1],
+        b"0, 2, 0, 0, 1, 0, 2, 1, 1, 1: no such block",
+        &[0, 2, 0, 0, 1, 0, 2, 1, 1, 1],
     );
 }
 
@@ -275,38 +347,44 @@ fn show_masked_task() {
     show_replay_on(
         name,
         &file,
-        b"0, 2, 0, 0, 1, 0, 1, 1, 0",
-        &[0, 2, 0, 0, 1, 0, 1, 1, 0],
+        b"0, 2, 0, 0, 1, 0, 2, 1, 1, 0",
+        &[0, 2, 0, 0, 1, 0, 2, 1, 1, 0],
     );
     show_replay_on(name, &file, b"0, 2, 0, 0, 0", &[0, 2, 0, 0, 0]);
     show_replay_on(
         name,
         &file,
-        b"0, 2, 0, 0, 1, 0, 1, 2, 0, 0: no such jump",
-        &[0, 2, 0, 0, 1, 0, 1, 2, 0, 0],
+        b"0, 2, 0, 0, 1, 0, 2, 1, 2, 0, 0: no such jump",
+        &[0, 2, 0, 0, 1, 0, 2, 1, 2, 0, 0],
+    );
+    show_replay_on(
+        name,
+        &file,
+        b"0, 2, 0, 0, 1, 0, 3, 1, 1, 0: more references than the block has",
+        &[0, 2, 0, 0, 1, 0, 3, 1, 1, 0],
     );
 }
 
-// Runs through a masked block: preempted before it, at it, and at it the second time.
+// Runs through a masked block: preempted before it, in it, and in it the second time.
 fn show_masked_block() {
     let name = b"three blocks, the second masked,";
     show_replay_on(
         name,
         &MASKED,
-        b"0, 3, 0, 1, 2, 1, 0, 1, 1, 0",
-        &[0, 3, 0, 1, 2, 1, 0, 1, 1, 0],
+        b"0, 3, 0, 1, 2, 1, 0, 2, 1, 1, 0",
+        &[0, 3, 0, 1, 2, 1, 0, 2, 1, 1, 0],
     );
     show_replay_on(
         name,
         &MASKED,
-        b"0, 3, 0, 1, 2, 1, 1, 1, 1, 0",
-        &[0, 3, 0, 1, 2, 1, 1, 1, 1, 0],
+        b"0, 3, 0, 1, 2, 1, 1, 1, 1, 1, 0",
+        &[0, 3, 0, 1, 2, 1, 1, 1, 1, 1, 0],
     );
     show_replay_on(
         name,
         &MASKED,
-        b"0, 3, 0, 1, 2, 2, 0, 1, 1, 0, 1, 1, 1, 0",
-        &[0, 3, 0, 1, 2, 2, 0, 1, 1, 0, 1, 1, 1, 0],
+        b"0, 3, 0, 1, 2, 2, 0, 2, 1, 1, 0, 1, 1, 1, 1, 0",
+        &[0, 3, 0, 1, 2, 2, 0, 2, 1, 1, 0, 1, 1, 1, 1, 0],
     );
 }
 
@@ -315,32 +393,32 @@ fn show_shared() {
     show_replay_on(
         b"E with byte 31 = 00",
         &with_byte(31, 0x00),
-        b"0, 2, 0, 0, 1, 0, 1, 1, 0",
-        &[0, 2, 0, 0, 1, 0, 1, 1, 0],
+        b"0, 2, 0, 0, 1, 0, 2, 1, 1, 0",
+        &[0, 2, 0, 0, 1, 0, 2, 1, 1, 0],
     );
     show_replay_on(
         b"a loop over the shared memory block",
         &SHARED_SAME,
-        b"0, 2, 0, 0, 1, 0, 1, 1, 0",
-        &[0, 2, 0, 0, 1, 0, 1, 1, 0],
+        b"0, 2, 0, 0, 1, 0, 1, 1, 1, 0",
+        &[0, 2, 0, 0, 1, 0, 1, 1, 1, 0],
     );
     show_replay_on(
         b"an empty block, then a shared one,",
         &SHARED_GAIN,
-        b"0, 2, 0, 1, 1, 0, 1, 1, 0",
-        &[0, 2, 0, 1, 1, 0, 1, 1, 0],
+        b"0, 2, 0, 1, 1, 0, 0, 1, 1, 0",
+        &[0, 2, 0, 1, 1, 0, 0, 1, 1, 0],
     );
     show_replay_on(
         b"one of two memory blocks shared",
         &SHARED_BOTH,
-        b"0, 2, 0, 1, 1, 0, 1, 1, 0",
-        &[0, 2, 0, 1, 1, 0, 1, 1, 0],
+        b"0, 2, 0, 1, 1, 0, 1, 1, 1, 0",
+        &[0, 2, 0, 1, 1, 0, 1, 1, 1, 0],
     );
     show_replay_on(
         b"one of two memory blocks shared",
         &SHARED_BOTH,
-        b"0, 2, 0, 1, 1, 1, 1, 1, 0",
-        &[0, 2, 0, 1, 1, 1, 1, 1, 0],
+        b"0, 2, 0, 1, 1, 1, 1, 1, 1, 0",
+        &[0, 2, 0, 1, 1, 1, 1, 1, 1, 0],
     );
 }
 
@@ -357,8 +435,11 @@ fn main() {
     show_replays();
     show_sheets();
     show_preemptions();
+    show_done();
+    show_two_points();
     show_paths();
     show_masked_task();
     show_masked_block();
     show_shared();
+    show_points();
 }

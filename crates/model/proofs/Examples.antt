@@ -38,10 +38,10 @@ numbersE = (refl, refl)
 abbrev pub countE : List Preemption → ℕ
 countE xs = countAtEnd (direct 2) tasksE (task tasksE 0) (0 ∷ 0 ∷ []) xs
 
-abbrev pub byTask1 : ℕ → Preemption
-byTask1 point = record { point = point; by = 1; path = 0 ∷ [] }
+abbrev pub byTask1 : ℕ → ℕ → Preemption
+byTask1 position done = record { position = position; done = done; by = 1; path = 0 ∷ [] }
 
-pub countsE : (countE [] ≡ 2) × (countE (byTask1 0 ∷ []) ≡ 3) × (countE (byTask1 1 ∷ []) ≡ 2)
+pub countsE : (countE [] ≡ 2) × (countE (byTask1 0 2 ∷ []) ≡ 3) × (countE (byTask1 1 2 ∷ []) ≡ 2)
 unfolding nothing
 countsE = (refl, refl, refl)
 
@@ -49,7 +49,7 @@ countsE = (refl, refl, refl)
 abbrev pub lostE : List Preemption → ℕ
 lostE xs = lostAtEnd (direct 2) tasksE (task tasksE 0) (0 ∷ 0 ∷ []) xs
 
-pub lost-hitsE : (lostE [] ≡ 0) × (lostE (byTask1 0 ∷ []) ≡ 1) × (lostE (byTask1 1 ∷ []) ≡ 0)
+pub lost-hitsE : (lostE [] ≡ 0) × (lostE (byTask1 0 2 ∷ []) ≡ 1) × (lostE (byTask1 1 2 ∷ []) ≡ 0)
 unfolding nothing
 lost-hitsE = (refl, refl, refl)
 

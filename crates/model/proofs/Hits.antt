@@ -1,17 +1,19 @@
 -- The lists of hits of a run: U and D are their misses, both have a place for each own reference, and the lost hits are those of the run's events.
--- Each is an induction on the references, on the list of preemptions or on the path.
-use mathlib.Core.Path.{_≡_, refl, ap, ap₂, _∙_}
+-- Each is an induction on the references, on the list of preemptions or on the points of the path.
+use mathlib.Core.Path.{_≡_, refl, sym, ap, ap₂, _∙_}
 use mathlib.Core.Bool.{Bool, true, false, not, _&&_}
 use mathlib.Core.List.{List, [], _∷_, _++_}
-use Prim.Native.Nat.{ℕ, suc, _+_}
+use Prim.Native.Nat.{ℕ, _+_}
 use native.Mathlib.Omega.{arith}
 use lib.ListN.{length, length-append}
 use Rattle.cache.specs.Sum.{bit}
 use Rattle.cache.specs.Cache.{Cache, emptyRow, hits, withReference, withReferences}
-use Rattle.model.specs.Tasks.{Block, Task, block, references}
-use Rattle.model.specs.Runs.{Preemption, RowCount, atFirst, ownReferences, preempted, preemptedBy, withPoint, positions, countAtEnd, hitsOf, hitsFrom, ownHits, lostOf, missesIn, lostAtEnd}
-use Rattle.model.proofs.Events.{Event, refs, lost}
-use Rattle.model.proofs.RunEvents.{preempts, runEvents, own-row}
+use Rattle.model.specs.Tasks.{Task, references}
+use Rattle.model.specs.Runs.{Preemption, Point, points, RowCount, atFirst, ownReferences, preempted, preemptedBy, withPoint, afterPoint, run, countAtEnd, hitsOf, hitsFrom, ownHits, lostOf, missesIn, lostAtEnd}
+use Rattle.model.proofs.Events.{Event, own, refs, lost}
+use Rattle.model.proofs.Lost.{own-refs}
+use Rattle.model.proofs.Incoming.{own-run}
+use Rattle.model.proofs.RunEvents.{positionOf, doneOf, allOf, preempts, runEvents, own-row}
 
 module _ (k : Cache) (ts : List Task) where
   misses-own : (ms : List ℕ) (s : RowCount) (hs : List Bool) → ownReferences k s ms .count + missesIn hs ≡ s .count + missesIn (hitsOf k (s .row) ms ++ hs)
@@ -23,40 +25,42 @@ module _ (k : Cache) (ts : List Task) where
   preempted-keeps [] s = refl
   preempted-keeps (x ∷ xs) s = preempted-keeps xs (preempted k ts s x)
 
-  misses-from : (t : Task) (xs : List Preemption) (p : List ℕ) (i : ℕ) (s : RowCount) → positions k ts t xs i s p .count ≡ s .count + missesIn (hitsFrom k ts t xs i s p)
-  misses-from t xs [] i s = omega arith
-  misses-from t xs (b ∷ p) i s =
-      let own = ownReferences k s (block t b .references) in
-      let next = preemptedBy k ts own (withPoint i xs) in
+  misses-from : (xs : List Preemption) (ps : List Point) (s : RowCount) → run k ts xs s ps .count ≡ s .count + missesIn (hitsFrom k ts xs s ps)
+  misses-from xs [] s = omega arith
+  misses-from xs (p ∷ ps) s =
+      let own = ownReferences k s (p .reference) in
+      let next = afterPoint k ts xs s p in
       omega (
         arith,
-        misses-from t xs p (suc i) next,
-        preempted-keeps (withPoint i xs) own,
-        misses-own (block t b .references) s (hitsFrom k ts t xs (suc i) next p),
+        misses-from xs ps next,
+        preempted-keeps (withPoint (p .position) (p .done) xs) own,
+        misses-own (p .reference) s (hitsFrom k ts xs next ps),
       )
 
   -- D is the misses of its list of hits, and so is U with the empty list
   pub misses-of-hits : (t : Task) (path : List ℕ) (xs : List Preemption) → countAtEnd k ts t path xs ≡ missesIn (ownHits k ts t path xs)
-  misses-of-hits t path xs = omega (arith, misses-from t xs path 0 (atFirst k))
+  misses-of-hits t path xs = omega (arith, misses-from xs (points t 0 path) (atFirst k))
 
   hits-of-long : (ms row : List ℕ) → length (hitsOf k row ms) ≡ length ms
   hits-of-long [] row = refl
   hits-of-long (m ∷ ms) row = rw (hits-of-long ms (withReference k row m))
 
-  hits-from-long : (t : Task) (xs : List Preemption) (p : List ℕ) (i : ℕ) (s : RowCount) → length (hitsFrom k ts t xs i s p) ≡ length (references t p)
-  hits-from-long t xs [] i s = refl
-  hits-from-long t xs (b ∷ p) i s =
-      let next = preemptedBy k ts (ownReferences k s (block t b .references)) (withPoint i xs) in
-      rw (
-        length-append (hitsOf k (s .row) (block t b .references)) (hitsFrom k ts t xs (suc i) next p),
-        hits-of-long (block t b .references) (s .row),
-        hits-from-long t xs p (suc i) next,
-        length-append (block t b .references) (references t p),
-      )
+  hits-from-long : (xs : List Preemption) (ps : List Point) (s : RowCount) → length (hitsFrom k ts xs s ps) ≡ length (own (runEvents ts xs ps))
+  hits-from-long xs [] s = refl
+  hits-from-long xs (p ∷ ps) s =
+      let ys = withPoint (p .position) (p .done) xs in
+      length-append (hitsOf k (s .row) (p .reference)) (hitsFrom k ts xs (afterPoint k ts xs s p) ps)
+      ∙ ap₂ (λ (x y : ℕ). x + y) (hits-of-long (p .reference) (s .row)) (hits-from-long xs ps (afterPoint k ts xs s p))
+      ∙ sym (ap length (own-refs (p .reference) (preempts ts ys (runEvents ts xs ps)) ∙ ap (λ (l : List ℕ). p .reference ++ l) (own-preempts ys (runEvents ts xs ps)))
+      ∙ length-append (p .reference) (own (runEvents ts xs ps)))
+    where
+      own-preempts : (ys : List Preemption) (es : List Event) → own (preempts ts ys es) ≡ own es
+      own-preempts [] es = refl
+      own-preempts (y ∷ ys) es = own-preempts ys es
 
   -- both lists have a place for each own reference
   pub hits-long : (t : Task) (path : List ℕ) (xs : List Preemption) → length (ownHits k ts t path xs) ≡ length (references t path)
-  hits-long t path xs = hits-from-long t xs path 0 (atFirst k)
+  hits-long t path xs = hits-from-long xs (points t 0 path) (atFirst k) ∙ ap length (own-run positionOf doneOf (allOf ts) t xs 0 path)
 
   -- ---- the lost hits over the events
 
@@ -70,20 +74,21 @@ module _ (k : Cache) (ts : List Task) where
   lost-preempts [] s u es = refl
   lost-preempts (x ∷ xs) s u es = lost-preempts xs (preempted k ts s x) u es
 
-  lost-from : (t : Task) (xs : List Preemption) (p : List ℕ) (i : ℕ) (u d : RowCount)
-      → lostOf (hitsFrom k ts t [] i u p) (hitsFrom k ts t xs i d p) ≡ lost k (d .row) (u .row) (runEvents ts t xs i p)
-  lost-from t xs [] i u d = refl
-  lost-from t xs (b ∷ p) i u d =
-      let ms = block t b .references in
+  lost-from : (xs : List Preemption) (ps : List Point) (u d : RowCount)
+      → lostOf (hitsFrom k ts [] u ps) (hitsFrom k ts xs d ps) ≡ lost k (d .row) (u .row) (runEvents ts xs ps)
+  lost-from xs [] u d = refl
+  lost-from xs (p ∷ ps) u d =
+      let ms = p .reference in
+      let ys = withPoint (p .position) (p .done) xs in
       let own-d = ownReferences k d ms in
-      let es = runEvents ts t xs (suc i) p in
-      lost-own ms (u .row) (d .row) (preempts ts (withPoint i xs) es) _ _
-      (lost-from t xs p (suc i) (ownReferences k u ms) (preemptedBy k ts own-d (withPoint i xs))
-      ∙ lost-preempts (withPoint i xs) own-d (ownReferences k u ms .row) es
-      ∙ ap₂ (λ (x y : List ℕ). lost k x y (preempts ts (withPoint i xs) es)) (own-row k d ms) (own-row k u ms))
+      let es = runEvents ts xs ps in
+      lost-own ms (u .row) (d .row) (preempts ts ys es) _ _
+      (lost-from xs ps (ownReferences k u ms) (preemptedBy k ts own-d ys)
+      ∙ lost-preempts ys own-d (ownReferences k u ms .row) es
+      ∙ ap₂ (λ (x y : List ℕ). lost k x y (preempts ts ys es)) (own-row k d ms) (own-row k u ms))
 
-  pub lost-events : (t : Task) (path : List ℕ) (xs : List Preemption) → lostAtEnd k ts t path xs ≡ lost k (emptyRow k) (emptyRow k) (runEvents ts t xs 0 path)
-  lost-events t path xs = lost-from t xs path 0 (atFirst k) (atFirst k)
+  pub lost-events : (t : Task) (path : List ℕ) (xs : List Preemption) → lostAtEnd k ts t path xs ≡ lost k (emptyRow k) (emptyRow k) (runEvents ts xs (points t 0 path))
+  lost-events t path xs = lost-from xs (points t 0 path) (atFirst k) (atFirst k)
 
 -- the same list against itself
 pub none-lost : (hs : List Bool) → lostOf hs hs ≡ 0

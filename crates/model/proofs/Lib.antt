@@ -6,8 +6,11 @@ pub mod Exact
 pub mod Events
 pub mod Lost
 pub mod Disjoint
+pub mod Entering
 pub mod Most
 pub mod OldNumbers
+pub mod Taken
+pub mod Incoming
 pub mod RunEvents
 pub mod Hits
 pub mod Bounds
@@ -19,4 +22,5 @@ pub mod StatesWidth
 pub mod Examples
 pub mod Neighbours
 pub mod SharedNeighbours
+pub mod PointNeighbours
 pub mod OnPath

@@ -1,5 +1,5 @@
--- The computed `most` is the most over the rows that paths make at the blocks that pass its test, for every count and every two tasks, and
--- there is only one.
+-- The computed `most` is the most over the rows that paths make at the points that its list has, for every count and every two tasks, and there is
+-- only one.
 -- The idea: a largest value bounds each value and is one of them or 0; the lists hold exactly the rows of paths.
 use mathlib.Core.Path.{_≡_, refl, sym, _∙_}
 use mathlib.Core.Logic.{_⊎_, inl, inr, _↔_}
@@ -9,18 +9,19 @@ use Prim.Native.Nat.{ℕ, _≤_, max}
 use native.Mathlib.Nat.{le-trans}
 use native.Mathlib.Omega.{arith}
 use lib.Dec.{eqb, ltb}
+use lib.ListN.{length}
 use borrow.Author.Tests.{eqb-true, eq-eqb, ltb-true, ltb-false}
 use Rattle.cache.specs.Cache.{Cache}
 use Rattle.cache.specs.Sets.{useful, replaces, usefulReplaced, usefulUsed}
 use Rattle.cache.proofs.Sums.{count-le}
 use Rattle.model.specs.Lists.{mem, best}
-use Rattle.model.specs.Tasks.{Block, Task, block, Unmasked, SomeUnmasked, end}
+use Rattle.model.specs.Tasks.{Block, Task, block, Unmasked, SomeUnmasked, Done, Allows, AllDone, end}
 use Rattle.model.specs.States.{Reaches, Lives}
-use Rattle.model.specs.Numbers.{Count, Rows, counted, Most, PairNumber, UsedNumber, NumberOverAll}
-use Rattle.model.specs.Computed.{State, sameList, sameState, reachingStates, liveStates, rowsAt, unmasked, most, pairNumber, usedNumber}
-use Rattle.model.proofs.Membership.{or-cases, or-left, or-right, eqb-self, sameList-self, sameList-true, sameState-self, sameState-true}
-use Rattle.model.proofs.Paths.{path-last}
+use Rattle.model.specs.Numbers.{Count, Rows, counted, Most, PairNumber, UsedNumber, NumberAtEnds, NumberOverAll}
+use Rattle.model.specs.Computed.{State, sameList, sameState, reachingStates, liveStates, rowsAt, entering, unmasked, dones, allowed, allDone, doneRow, leftRow, most, pairNumber, usedNumber}
+use Rattle.model.proofs.Membership.{or-cases, or-left, or-right, eqb-self, one-is, one-has, sameList-self, sameList-true, sameState-self, sameState-true}
 use Rattle.model.proofs.Exact.{reaching-exact, live-exact}
+use Rattle.model.proofs.Entering.{Enters, entering-exact, dones-exact, done-all, at-point, live-point, BeforePoint, point-before, AfterPoint, point-after, point-inside}
 
 -- ---- the largest value
 
@@ -69,109 +70,156 @@ rowsAt-only b r (x ∷ xs) e = or-swap (go (eqb (x .0) b) refl e (rowsAt-only b 
     go true h e ih = elim (or-cases (sameList r (x .1)) (mem sameList r (rowsAt b xs)) e) [ inl q ↦ inl (rw (eqb-true (x .0) b h, eqb-self b) q) | inr q ↦ inr (ih q) ]
     go false h e ih = inr (ih e)
 
--- ---- the most over the rows of paths, at the blocks that pass the test
+-- ---- the most over the rows of paths, at the points that the list has
 
-module _ (v : Count) (k : Cache) (i j : Task) (At : ℕ → Type 0) (test : ℕ → Bool) (agree : (b : ℕ) → (test b ≡ true) ↔ At b) where
+module _ (v : Count) (k : Cache) (i j : Task) (At : ℕ → ℕ → Type 0) (points : ℕ → List ℕ) (agree : (b d : ℕ) → (mem eqb d (points b) ≡ true) ↔ At b d) where
   abbrev endRows : List (List ℕ)
   endRows = rowsAt (end j) (reachingStates k j)
 
   abbrev overEnds : List ℕ → List ℕ → ℕ
   overEnds r l = best (λ (f : List ℕ). v r l f) endRows
 
-  abbrev overLive : State → ℕ
-  overLive x = best (overEnds (x .1)) (rowsAt (x .0) (liveStates k i))
+  abbrev overLive : State → ℕ → ℕ
+  overLive x d = best (λ (l : List ℕ). overEnds (doneRow k i x d) (leftRow k i (x .0) d l)) (rowsAt (x .0) (liveStates k i))
 
-  abbrev whereTested : State → ℕ
-  whereTested x = cond (test (x .0)) (overLive x) 0
+  abbrev overPoints : State → ℕ
+  overPoints x = best (overLive x) (points (x .0))
 
   abbrev number : ℕ
-  number = most v k i j test
+  number = most v k i j points
 
-  most-bound : (x : Rows k i j) → At (x .at) → counted v x ≤ number
+  -- any row before the block, any live row after it, any number of references done that the list has
+  pub rows-le : (b d : ℕ) (e l f : List ℕ) → At b d → Enters k i b e → Lives k i b l → Reaches k j (end j) f
+      → v (doneRow k i (b, e) d) (leftRow k i b d l) f ≤ number
+  rows-le b d e l f at he hl hf =
+      le-trans (best-le sameList sameList-self sameList-true (λ (f : List ℕ). v (doneRow k i (b, e) d) (leftRow k i b d l) f) f endRows (rowsAt-has (end j) f (reachingStates k j) (reaching-exact k j (end j) f .1 hf)))
+      (le-trans (best-le sameList sameList-self sameList-true (λ (l : List ℕ). overEnds (doneRow k i (b, e) d) (leftRow k i b d l)) l (rowsAt b (liveStates k i)) (rowsAt-has b l (liveStates k i) (live-exact k i b l .1 hl)))
+      (le-trans (best-le eqb eqb-self eqb-true (overLive (b, e)) d (points b) (agree b d .1 at))
+      (best-le sameState sameState-self sameState-true overPoints (b, e) (entering k i) (entering-exact k i b e .1 he))))
+
+  most-bound : (x : Rows k i j) → At (x .at) (x .done) → counted v x ≤ number
   most-bound x at =
-      let r = x .reaching in
-      let l = x .live in
-      let f = x .ending in
-      let tested : whereTested (x .at, r) ≡ overLive (x .at, r) = rw (agree (x .at) .1 at) in
-      le-trans (best-le sameList sameList-self sameList-true (λ (f : List ℕ). v r l f) f endRows (rowsAt-has (end j) f (reachingStates k j) (reaching-exact k j (end j) f .1 (x .ends))))
-      (le-trans (best-le sameList sameList-self sameList-true (overEnds r) l (rowsAt (x .at) (liveStates k i)) (rowsAt-has (x .at) l (liveStates k i) (live-exact k i (x .at) l .1 (x .lives))))
-      (rw tested at (best-le sameState sameState-self sameState-true whereTested (x .at, r) (reachingStates k i) (reaching-exact k i (x .at) r .1 (x .reaches)))))
+      let b = point-before k i (x .at) (x .done) (x .reaching) (x .reaches) in
+      let a = point-after k i (x .at) (x .done) (x .live) (x .lives) in
+      same-rows (x .reaching) (x .live) (x .ending) _ _ (b .same) (a .same) (rows-le (x .at) (x .done) (b .before) (a .after) (x .ending) at (b .enters) (a .lives) (x .ends))
+    where
+      same-rows : (r l f r' l' : List ℕ) → r ≡ r' → l ≡ l' → v r' l' f ≤ number → v r l f ≤ number
+      same-rows r l f r' l' er el h = rw (er, el) h
 
   abbrev Attained : Type 0
-  Attained = (number ≡ 0) ⊎ ((x : Rows k i j) × At (x .at) × (counted v x ≡ number))
+  Attained = (number ≡ 0) ⊎ ((x : Rows k i j) × At (x .at) (x .done) × (counted v x ≡ number))
 
-  attained-ends : (b : ℕ) (r l : List ℕ) → At b → Reaches k i b r → Lives k i b l → overEnds r l ≡ number
-      → (overEnds r l ≡ 0) ⊎ ((f : List ℕ) × (mem sameList f endRows ≡ true) × (v r l f ≡ overEnds r l)) → Attained
-  attained-ends b r l at hr hl e (inl z) = inl (sym e ∙ z)
-  attained-ends b r l at hr hl e (inr (f, p, q)) =
+  attained-ends : (x : State) (d : ℕ) (l : List ℕ) → At (x .0) d → Enters k i (x .0) (x .1) → Lives k i (x .0) l
+      → overEnds (doneRow k i x d) (leftRow k i (x .0) d l) ≡ number
+      → (overEnds (doneRow k i x d) (leftRow k i (x .0) d l) ≡ 0)
+      ⊎ ((f : List ℕ) × (mem sameList f endRows ≡ true) × (v (doneRow k i x d) (leftRow k i (x .0) d l) f ≡ overEnds (doneRow k i x d) (leftRow k i (x .0) d l)))
+      → Attained
+  attained-ends x d l at he hl e (inl z) = inl (sym e ∙ z)
+  attained-ends x d l at he hl e (inr (f, p, q)) =
       inr (
         record {
-          at = b;
-          reaching = r;
-          live = l;
+          at = x .0;
+          done = d;
+          reaching = doneRow k i x d;
+          live = leftRow k i (x .0) d l;
           ending = f;
-          reaches = hr;
-          lives = hl;
+          reaches = at-point k i (x .0) d (x .1) he;
+          lives = live-point k i (x .0) d l hl;
           ends = reaching-exact k j (end j) f .0 (rowsAt-only (end j) f (reachingStates k j) p);
         },
         at,
         q ∙ e,
       )
 
-  attained-live : (b : ℕ) (r : List ℕ) → At b → Reaches k i b r → overLive (b, r) ≡ number
-      → (overLive (b, r) ≡ 0) ⊎ ((l : List ℕ) × (mem sameList l (rowsAt b (liveStates k i)) ≡ true) × (overEnds r l ≡ overLive (b, r))) → Attained
-  attained-live b r at hr e (inl z) = inl (sym e ∙ z)
-  attained-live b r at hr e (inr (l, p, q)) =
-      attained-ends b r l at hr (live-exact k i b l .0 (rowsAt-only b l (liveStates k i) p)) (q ∙ e)
-      (best-attained sameList sameList-self sameList-true (λ (f : List ℕ). v r l f) endRows)
+  attained-live : (x : State) (d : ℕ) → At (x .0) d → Enters k i (x .0) (x .1) → overLive x d ≡ number
+      → (overLive x d ≡ 0)
+      ⊎ ((l : List ℕ) × (mem sameList l (rowsAt (x .0) (liveStates k i)) ≡ true) × (overEnds (doneRow k i x d) (leftRow k i (x .0) d l) ≡ overLive x d)) → Attained
+  attained-live x d at he e (inl z) = inl (sym e ∙ z)
+  attained-live x d at he e (inr (l, p, q)) =
+      attained-ends x d l at he (live-exact k i (x .0) l .0 (rowsAt-only (x .0) l (liveStates k i) p)) (q ∙ e)
+      (best-attained sameList sameList-self sameList-true (λ (f : List ℕ). v (doneRow k i x d) (leftRow k i (x .0) d l) f) endRows)
 
-  attained-reaching : (number ≡ 0) ⊎ ((x : State) × (mem sameState x (reachingStates k i) ≡ true) × (whereTested x ≡ number)) → Attained
-  attained-reaching (inl z) = inl z
-  attained-reaching (inr (x, p, q)) = go (test (x .0)) refl q
-    where
-      go : (s : Bool) → test (x .0) ≡ s → cond s (overLive x) 0 ≡ number → Attained
-      go true t q =
-          attained-live (x .0) (x .1) (agree (x .0) .0 t) (reaching-exact k i (x .0) (x .1) .0 p) q
-          (best-attained sameList sameList-self sameList-true (overEnds (x .1)) (rowsAt (x .0) (liveStates k i)))
-      go false t q = inl (sym q)
+  attained-points : (x : State) → Enters k i (x .0) (x .1) → overPoints x ≡ number
+      → (overPoints x ≡ 0) ⊎ ((d : ℕ) × (mem eqb d (points (x .0)) ≡ true) × (overLive x d ≡ overPoints x)) → Attained
+  attained-points x he e (inl z) = inl (sym e ∙ z)
+  attained-points x he e (inr (d, p, q)) =
+      attained-live x d (agree (x .0) d .0 p) he (q ∙ e)
+      (best-attained sameList sameList-self sameList-true (λ (l : List ℕ). overEnds (doneRow k i x d) (leftRow k i (x .0) d l)) (rowsAt (x .0) (liveStates k i)))
+
+  attained-entering : (number ≡ 0) ⊎ ((x : State) × (mem sameState x (entering k i) ≡ true) × (overPoints x ≡ number)) → Attained
+  attained-entering (inl z) = inl z
+  attained-entering (inr (x, p, q)) =
+      attained-points x (entering-exact k i (x .0) (x .1) .0 p) q (best-attained eqb eqb-self eqb-true (overLive x) (points (x .0)))
 
   pub most-is : Most v k i j At number
-  most-is = record { bound = most-bound; attained = attained-reaching (best-attained sameState sameState-self sameState-true whereTested (reachingStates k i)) }
+  most-is = record { bound = most-bound; attained = attained-entering (best-attained sameState sameState-self sameState-true overPoints (entering k i)) }
 
--- there is only one
-module _ (v : Count) (k : Cache) (i j : Task) (At : ℕ → Type 0) where
-  most-le : (x y : ℕ) → Most v k i j At x → Most v k i j At y → x ≤ y
-  most-le x y p q = go (p .attained)
+module _ (v : Count) (k : Cache) (i j : Task) (At : ℕ → ℕ → Type 0) where
+  -- a most over some points bounds one over fewer
+  pub most-le : (Fewer : ℕ → ℕ → Type 0) → ((b d : ℕ) → Fewer b d → At b d) → (x y : ℕ) → Most v k i j Fewer x → Most v k i j At y → x ≤ y
+  most-le Fewer all x y p q = go (p .attained)
     where
-      go : (x ≡ 0) ⊎ ((rows : Rows k i j) × At (rows .at) × (counted v rows ≡ x)) → x ≤ y
+      go : (x ≡ 0) ⊎ ((rows : Rows k i j) × Fewer (rows .at) (rows .done) × (counted v rows ≡ x)) → x ≤ y
       go (inl z) = omega arith
-      go (inr (rows, at, e)) = omega (arith, q .bound rows at)
+      go (inr (rows, at, e)) = omega (arith, q .bound rows (all (rows .at) (rows .done) at))
 
+  -- there is only one
   pub most-unique : (x y : ℕ) → Most v k i j At x → Most v k i j At y → x ≡ y
-  most-unique x y p q = omega (arith, most-le x y p q, most-le y x q p)
+  most-unique x y p q = omega (arith, most-le At (λ b d h. h) x y p q, most-le At (λ b d h. h) y x q p)
 
--- ---- over unmasked blocks
+-- ---- over the points of unmasked blocks
 
 pub unmasked-exact : (t : Task) (b : ℕ) → (unmasked t b ≡ true) ↔ Unmasked t b
 unmasked-exact t b = (eqb-true (block t b .flags) 0, eq-eqb (block t b .flags) 0)
 
-pub unmasked-most : (v : Count) (k : Cache) (i j : Task) → Most v k i j (Unmasked i) (most v k i j (unmasked i))
-unmasked-most v k i j = most-is v k i j (Unmasked i) (unmasked i) (unmasked-exact i)
+-- the numbers of a list at unmasked blocks alone
+free-exact : (t : Task) (P : ℕ → ℕ → Type 0) (list : ℕ → List ℕ) → ((b d : ℕ) → (mem eqb d (list b) ≡ true) ↔ P b d) → (b d : ℕ)
+    → (mem eqb d (cond (unmasked t b) (list b) []) ≡ true) ↔ (Unmasked t b × P b d)
+free-exact t P list h b d = (λ e. only (unmasked t b) refl e, λ (u, p). rw (unmasked-exact t b .1 u) (h b d .1 p))
+  where
+    only : (s : Bool) → unmasked t b ≡ s → mem eqb d (cond s (list b) []) ≡ true → Unmasked t b × P b d
+    only true q e = (unmasked-exact t b .0 q, h b d .0 e)
+    only false q e = absurd (false≢true e)
+
+pub allowed-exact : (t : Task) (b d : ℕ) → (mem eqb d (allowed t b) ≡ true) ↔ Allows t b d
+allowed-exact t = free-exact t (λ b d. Done (block t b .references) d) (λ b. dones (block t b .references)) (λ b d. dones-exact (block t b .references) d)
+
+all-done-exact : (t : Task) (b d : ℕ) → (mem eqb d (allDone t b) ≡ true) ↔ AllDone t b d
+all-done-exact t b d = (one-is d (length (block t b .references)), λ e. rw e (one-has (length (block t b .references))))
+
+pub allowed-most : (v : Count) (k : Cache) (i j : Task) → Most v k i j (Allows i) (most v k i j (allowed i))
+allowed-most v k i j = most-is v k i j (Allows i) (allowed i) (allowed-exact i)
 
 pub pair-is : (k : Cache) (i j : Task) → PairNumber k i j (pairNumber k i j)
-pair-is k i j = unmasked-most (usefulReplaced k) k i j
+pair-is k i j = allowed-most (usefulReplaced k) k i j
 
 pub used-is : (k : Cache) (i j : Task) → UsedNumber k i j (usedNumber k i j)
-used-is k i j = unmasked-most (usefulUsed k) k i j
+used-is k i j = allowed-most (usefulUsed k) k i j
 
-pub over-all-is : (k : Cache) (i j : Task) → NumberOverAll k i j (most (usefulUsed k) k i j (λ b. true))
-over-all-is k i j = most-is (usefulUsed k) k i j (λ (b : ℕ). Unit {0}) (λ b. true) (λ b. (λ e. tt, λ u. refl))
+-- over the ends of the unmasked blocks alone
+abbrev pub unmaskedEnds : Task → ℕ → List ℕ
+unmaskedEnds t b = cond (unmasked t b) (allDone t b) []
+
+pub ends-most : (v : Count) (k : Cache) (i j : Task) → Most v k i j (λ b d. Unmasked i b × AllDone i b d) (most v k i j (unmaskedEnds i))
+ends-most v k i j = most-is v k i j (λ b d. Unmasked i b × AllDone i b d) (unmaskedEnds i) (free-exact i (AllDone i) (allDone i) (all-done-exact i))
+
+pub at-ends-is : (k : Cache) (i j : Task) → NumberAtEnds k i j (most (usefulReplaced k) k i j (unmaskedEnds i))
+at-ends-is k i j = ends-most (usefulReplaced k) k i j
+
+pub over-all-is : (k : Cache) (i j : Task) → NumberOverAll k i j (most (usefulUsed k) k i j (allDone i))
+over-all-is k i j = most-is (usefulUsed k) k i j (AllDone i) (allDone i) (all-done-exact i)
+
+-- no pair number is below the one over block ends
+pub ends-le : (k : Cache) (i j : Task) (x : ℕ) → NumberAtEnds k i j x → x ≤ pairNumber k i j
+ends-le k i j x n =
+    most-le (usefulReplaced k) k i j (Allows i) (λ (b d : ℕ). Unmasked i b × AllDone i b d) (λ b d (u, e). (u, rw e (done-all (block i b .references)))) x (pairNumber k i j) n
+    (pair-is k i j)
 
 -- no pair number is over the number of places of a row
 pub pair-le : (k : Cache) (i j : Task) → pairNumber k i j ≤ k .width
 pair-le k i j = go (pair-is k i j .attained)
   where
-    go : (pairNumber k i j ≡ 0) ⊎ ((rows : Rows k i j) × Unmasked i (rows .at) × (counted (usefulReplaced k) rows ≡ pairNumber k i j)) → pairNumber k i j ≤ k .width
+    go : (pairNumber k i j ≡ 0) ⊎ ((rows : Rows k i j) × Allows i (rows .at) (rows .done) × (counted (usefulReplaced k) rows ≡ pairNumber k i j)) → pairNumber k i j ≤ k .width
     go (inl z) = omega arith
     go (inr (rows, free, e)) = omega (arith, e, count-le (k .width) (λ c. useful (rows .reaching) (rows .live) c && replaces (rows .ending) (rows .reaching) c))
 
@@ -179,6 +227,6 @@ pair-le k i j = go (pair-is k i j .attained)
 pub masked-zero : (k : Cache) (i j : Task) → (SomeUnmasked i → ⊥) → pairNumber k i j ≡ 0
 masked-zero k i j none = go (pair-is k i j .attained)
   where
-    go : (pairNumber k i j ≡ 0) ⊎ ((rows : Rows k i j) × Unmasked i (rows .at) × (counted (usefulReplaced k) rows ≡ pairNumber k i j)) → pairNumber k i j ≡ 0
+    go : (pairNumber k i j ≡ 0) ⊎ ((rows : Rows k i j) × Allows i (rows .at) (rows .done) × (counted (usefulReplaced k) rows ≡ pairNumber k i j)) → pairNumber k i j ≡ 0
     go (inl z) = z
-    go (inr (rows, free, e)) = absurd (none (rows .at, path-last i (rows .reaches .1), free))
+    go (inr (rows, free, e)) = absurd (none (rows .at, point-inside k i (rows .at) (rows .done) (rows .reaching) (rows .reaches), free .0))

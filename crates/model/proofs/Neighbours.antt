@@ -1,7 +1,8 @@
 -- Statements next to the main theorems that are false, each with the run or the row that refutes it.
 -- The tasks of file E keep the rules, and their runs are computed.
 use mathlib.Core.Path.{_≡_, refl}
-use mathlib.Core.Bool.{Bool, true, _&&_, false≢true}
+use mathlib.Core.Logic.{inl}
+use mathlib.Core.Bool.{true, _&&_, false≢true}
 use mathlib.Core.List.{List, [], _∷_}
 use Prim.Native.Nat.{ℕ, zero, suc, _≤_, _<_}
 use native.Mathlib.Omega.{arith}
@@ -12,15 +13,15 @@ use Rattle.cache.specs.References.{nothing, Real, All}
 use Rattle.cache.specs.Cache.{Cache, direct, held, firstReferences}
 use Rattle.cache.specs.Sets.{replaces, usefulReplaced, usefulUsed}
 use Rattle.model.specs.Lists.{best}
-use Rattle.model.specs.Tasks.{Block, Task, Unmasked, SomeUnmasked, end, PathFrom, stay, step, Complete, OnCompletePath, references, memoryBlocks, task, Rules}
+use Rattle.model.specs.Tasks.{Block, Task, SomeUnmasked, end, PathFrom, stay, step, Complete, OnCompletePath, references, memoryBlocks, task, Rules}
 use Rattle.model.specs.States.{Reaches, Lives}
 use Rattle.model.specs.Numbers.{Count, NumberOverAll}
-use Rattle.model.specs.Runs.{Preemption, Preempts, DisturbedRun, ownHits, lostAtEnd, U, D, lostHits}
-use Rattle.model.specs.Computed.{State, sameState, close, liveNext, rounds, rowsAt, reachingStates, unmasked, most, pairNumber}
+use Rattle.model.specs.Runs.{Preemption, Preempts, DisturbedRun, OnceBy, ownHits, lostAtEnd, U, D, lostHits}
+use Rattle.model.specs.Computed.{State, sameState, close, liveNext, rounds, rowsAt, reachingStates, entering, allowed, allDone, doneRow, leftRow, most, pairNumber}
 use Rattle.model.specs.Demand.{pairSum, NonePreempted}
 use Rattle.model.proofs.Sorted.{reaching-rows}
 use Rattle.model.proofs.Hits.{none-lost}
-use Rattle.model.proofs.Bounds.{bounded}
+use Rattle.model.proofs.Bounds.{once-le}
 use Rattle.model.proofs.Most.{over-all-is}
 use Rattle.model.proofs.Demand.{none-preempted}
 use Rattle.model.specs.Figures.{tasksE, tasksMasked0, tasksMasked1, figure1}
@@ -28,26 +29,42 @@ use Rattle.model.proofs.Examples.{byTask1}
 
 -- ---- the tasks of E keep the rules
 
-realE : (j : ℕ) → All Real (memoryBlocks (task tasksE j))
-unfolding nothing
-realE zero = (λ e. omega arith, (λ e. omega arith, tt))
-realE (suc zero) = (λ e. omega arith, tt)
-realE (suc (suc j)) = tt
+-- two tasks that keep them
+pub rules-two : (a b : Task) → 0 < length a → 0 < length b → ((x : ℕ) → x < length a → OnCompletePath a x) → ((x : ℕ) → x < length b → OnCompletePath b x)
+    → All Real (memoryBlocks a) → All Real (memoryBlocks b) → Rules (a ∷ b ∷ [])
+rules-two a b someA someB completeA completeB realA realB = record { some = some; complete = complete; real = real }
+  where
+    ts : List Task
+    ts = a ∷ b ∷ []
 
-completeE : (j b : ℕ) → j < 2 → b < length (task tasksE j) → OnCompletePath (task tasksE j) b
-completeE zero zero h l = (0 ∷ [], (refl, stay {b = 0} (omega arith)), refl)
-completeE zero (suc b) h l = absurd (omega arith)
-completeE (suc zero) zero h l = (0 ∷ [], (refl, stay {b = 0} (omega arith)), refl)
-completeE (suc zero) (suc b) h l = absurd (omega arith)
-completeE (suc (suc j)) b h l = absurd (omega arith)
+    some : (j : ℕ) → j < 2 → 0 < length (task ts j)
+    some zero h = someA
+    some (suc zero) h = someB
+    some (suc (suc j)) h = absurd (omega arith)
 
-someE : (j : ℕ) → j < 2 → 0 < length (task tasksE j)
-someE zero h = omega arith
-someE (suc zero) h = omega arith
-someE (suc (suc j)) h = absurd (omega arith)
+    complete : (j x : ℕ) → j < 2 → x < length (task ts j) → OnCompletePath (task ts j) x
+    complete zero x h l = completeA x l
+    complete (suc zero) x h l = completeB x l
+    complete (suc (suc j)) x h l = absurd (omega arith)
+
+    real : (j : ℕ) → All Real (memoryBlocks (task ts j))
+    real zero = realA
+    real (suc zero) = realB
+    real (suc (suc j)) = tt
+
+-- a task of one block is one complete path
+pub one-complete : (t : Task) → length t ≡ 1 → (x : ℕ) → x < length t → OnCompletePath t x
+one-complete t e zero l = (0 ∷ [], (refl, to-end (stay {b = 0} l)), refl)
+  where
+    to-end : PathFrom t 0 [] 0 → PathFrom t 0 [] (end t)
+    to-end w = rw e w
+one-complete t e (suc x) l = absurd (omega arith)
 
 pub rulesE : Rules tasksE
-rulesE = record { some = someE; complete = completeE; real = realE }
+unfolding nothing
+rulesE =
+    rules-two (task tasksE 0) (task tasksE 1) (omega arith) (omega arith) (one-complete (task tasksE 0) refl) (one-complete (task tasksE 1) refl)
+    (λ e. omega arith, (λ e. omega arith, tt)) (λ e. omega arith, tt)
 
 -- ---- D <= U
 
@@ -57,21 +74,25 @@ loop p w = step refl w
 pub stops0 : PathFrom (task tasksE 0) 0 [] 0
 stops0 = stay {b = 0} (omega arith)
 
-unmasked0 : (b : ℕ) → Unmasked (task tasksE 0) b
-unmasked0 zero = refl
-unmasked0 (suc b) = refl
-
-pub by1 : (point : ℕ) (path : List ℕ) → point < length path → Preempts tasksE 0 path (byTask1 point)
-by1 point path h = record { inPath = h; there = omega arith; other = λ e. omega arith; unmasked = unmasked0 (getD path point 0); complete = (refl, stay {b = 0} (omega arith)) }
+-- a preemption by task 1 in the block 0 of a path, where both references are done
+pub by1 : (position : ℕ) (path : List ℕ) → position < length path → getD path position 0 ≡ 0 → Preempts tasksE 0 path (byTask1 position 2)
+by1 position path h z = record {
+  inPath = h;
+  right = rw z (omega arith, omega arith);
+  there = omega arith;
+  other = λ e. omega arith;
+  unmasked = rw z refl;
+  complete = (refl, stay {b = 0} (omega arith));
+}
 
 abbrev pub onceE : DisturbedRun tasksE
 onceE = record {
   p = 0;
   path = 0 ∷ 0 ∷ [];
-  preemptions = byTask1 0 ∷ [];
+  preemptions = byTask1 0 2 ∷ [];
   there = omega arith;
   complete = (refl, loop [] stops0);
-  each = (by1 0 (0 ∷ 0 ∷ []) (omega arith), tt);
+  each = (by1 0 (0 ∷ 0 ∷ []) (omega arith) refl, tt);
   rising = tt;
 }
 
@@ -88,11 +109,11 @@ abbrev pub twiceE : DisturbedRun tasksE
 twiceE = record {
   p = 0;
   path = 0 ∷ 0 ∷ 0 ∷ [];
-  preemptions = byTask1 0 ∷ byTask1 1 ∷ [];
+  preemptions = byTask1 0 2 ∷ byTask1 1 2 ∷ [];
   there = omega arith;
   complete = (refl, loop (0 ∷ []) (loop [] stops0));
-  each = (by1 0 (0 ∷ 0 ∷ 0 ∷ []) (omega arith), (by1 1 (0 ∷ 0 ∷ 0 ∷ []) (omega arith), tt));
-  rising = (omega arith, tt);
+  each = (by1 0 (0 ∷ 0 ∷ 0 ∷ []) (omega arith) refl, (by1 1 (0 ∷ 0 ∷ 0 ∷ []) (omega arith) refl, tt));
+  rising = (inl (omega arith), tt);
 }
 
 twice-counts : (lostHits (direct 2) twiceE ≡ 2) × (pairSum (direct 2) tasksE 0 (drop 1 (twiceE .preemptions)) ≡ 1)
@@ -121,8 +142,8 @@ not-live-further h = go (h (task tasksE 1) 0 [] (stay {b = 0} (omega arith)))
 -- the closure without the row of nothings to start from, and its pair number
 abbrev pub mostWithoutStop : Count → Cache → Task → Task → ℕ
 mostWithoutStop v k i j =
-    best (λ (x : State). best (λ (l : List ℕ). best (λ (f : List ℕ). v (x .1) l f) (rowsAt (end j) (reachingStates k j)))
-    (rowsAt (x .0) (close sameState (liveNext k i) (rounds k i) []))) (reachingStates k i)
+    best (λ (x : State). best (λ (d : ℕ). best (λ (l : List ℕ). best (λ (f : List ℕ). v (doneRow k i x d) (leftRow k i (x .0) d l) f) (rowsAt (end j) (reachingStates k j)))
+    (rowsAt (x .0) (close sameState (liveNext k i) (rounds k i) []))) (allowed i (x .0))) (entering k i)
 
 without-stop : mostWithoutStop (usefulReplaced (direct 2)) (direct 2) (task tasksE 0) (task tasksE 1) ≡ 0
 unfolding nothing
@@ -136,17 +157,14 @@ not-without-stop h = omega (arith, h, once-counts, without-stop)
 abbrev pub replacedOrNothing : Cache → Count
 replacedOrNothing k r l f = count (k .width) (λ c. eqb (held r c) (held l c) && replaces f r c)
 
-two-nothings : (most (replacedOrNothing (direct 2)) (direct 2) (task tasksE 1) (task tasksE 0) (unmasked (task tasksE 1)) ≡ 1) × (pairNumber (direct 2) (task tasksE 1) (task tasksE 0) ≡ 0)
+two-nothings : (most (replacedOrNothing (direct 2)) (direct 2) (task tasksE 1) (task tasksE 0) (allowed (task tasksE 1)) ≡ 1) × (pairNumber (direct 2) (task tasksE 1) (task tasksE 0) ≡ 0)
 unfolding nothing
 two-nothings = (refl, refl)
 
 -- then no run of task 1 with exactly one preemption, by task 0, reaches the number
-pub not-two-nothings : (r : DisturbedRun tasksE) (one : Preemption) → r .p ≡ 1 → r .preemptions ≡ one ∷ [] → one .by ≡ 0
-    → lostHits (direct 2) r ≡ most (replacedOrNothing (direct 2)) (direct 2) (task tasksE 1) (task tasksE 0) (unmasked (task tasksE 1)) → ⊥
-not-two-nothings r one p q b e = omega (arith, e, two-nothings, bounded (direct 2) tasksE rulesE r .lost, sum-none (r .p) (r .preemptions) one p q b)
-  where
-    sum-none : (i : ℕ) (xs : List Preemption) (one : Preemption) → i ≡ 1 → xs ≡ one ∷ [] → one .by ≡ 0 → pairSum (direct 2) tasksE i xs ≡ 0
-    sum-none i xs one p q b = rw (p, q, b) (omega (arith, two-nothings .1))
+pub not-two-nothings : (r : DisturbedRun tasksE) → r .p ≡ 1 → OnceBy 0 (r .preemptions)
+    → lostHits (direct 2) r ≡ most (replacedOrNothing (direct 2)) (direct 2) (task tasksE 1) (task tasksE 0) (allowed (task tasksE 1)) → ⊥
+not-two-nothings r p one e = omega (arith, e, two-nothings, once-le (direct 2) tasksE rulesE r 1 0 p one)
 
 -- ---- a block started from its own references alone
 
@@ -157,7 +175,7 @@ not-own-references h = false≢true (reaching-rows (direct 4) figure1 1 (65535 �
 
 -- ---- the number over all blocks, masked ones too
 
-over-all : (most (usefulUsed (direct 2)) (direct 2) (task tasksMasked0 0) (task tasksMasked0 1) (λ b. true) ≡ 1)
+over-all : (most (usefulUsed (direct 2)) (direct 2) (task tasksMasked0 0) (task tasksMasked0 1) (allDone (task tasksMasked0 0)) ≡ 1)
     × (pairNumber (direct 2) (task tasksMasked0 0) (task tasksMasked0 1) ≡ 0)
 unfolding nothing
 over-all = (refl, refl)

@@ -5,18 +5,18 @@ use mathlib.Core.Bool.{false≢true}
 use mathlib.Core.List.{List, [], _∷_}
 use Prim.Native.Nat.{ℕ, zero, suc, _+_, _≤_, _<_}
 use native.Mathlib.Omega.{arith}
-use lib.ListN.{length}
-use Rattle.cache.specs.References.{nothing, Real, All}
+use lib.ListN.{getD}
+use Rattle.cache.specs.References.{nothing}
 use Rattle.cache.specs.Cache.{direct}
 use Rattle.model.specs.Lists.{Each}
-use Rattle.model.specs.Tasks.{Task, PathFrom, stay, step, Complete, OnCompletePath, memoryBlocks, task, Rules}
+use Rattle.model.specs.Tasks.{Block, Task, block, Done, PathFrom, stay, step, Complete, task, Rules}
 use Rattle.model.specs.Runs.{Preemption, Preempts, DisturbedRun, OnceBy, countAtEnd, lostAtEnd, U, D, lostHits}
 use Rattle.model.specs.Computed.{pairNumber, usedNumber}
-use Rattle.model.specs.Demand.{pairSum}
 use Rattle.model.specs.Figures.{tasksGain, tasksBoth, tasksSame}
 use Rattle.model.proofs.Membership.{one-is}
-use Rattle.model.proofs.Bounds.{bounded}
+use Rattle.model.proofs.Bounds.{once-le}
 use Rattle.model.proofs.Examples.{byTask1}
+use Rattle.model.proofs.Neighbours.{rules-two, one-complete}
 
 -- ---- U <= D
 
@@ -24,10 +24,10 @@ abbrev pub gains : DisturbedRun tasksGain
 gains = record {
   p = 0;
   path = 0 ∷ 1 ∷ [];
-  preemptions = byTask1 0 ∷ [];
+  preemptions = byTask1 0 0 ∷ [];
   there = omega arith;
   complete = (refl, step {b = 0} refl (stay {b = 1} (omega arith)));
-  each = (record { inPath = omega arith; there = omega arith; other = λ e. omega arith; unmasked = refl; complete = (refl, stay {b = 0} (omega arith)) }, tt);
+  each = (record { inPath = omega arith; right = refl; there = omega arith; other = λ e. omega arith; unmasked = refl; complete = (refl, stay {b = 0} (omega arith)) }, tt);
   rising = tt;
 }
 
@@ -44,12 +44,12 @@ number-both : pairNumber (direct 2) (task tasksBoth 0) (task tasksBoth 1) ≡ 1
 unfolding nothing
 number-both = refl
 
--- the two runs of task 0 with one preemption by task 1: after block 0, and after block 1
-pub counts-both : (countAtEnd (direct 2) tasksBoth (task tasksBoth 0) (0 ∷ 1 ∷ []) [] ≡ 2)
-    × (countAtEnd (direct 2) tasksBoth (task tasksBoth 0) (0 ∷ 1 ∷ []) (byTask1 0 ∷ []) ≡ 2)
-    × (lostAtEnd (direct 2) tasksBoth (task tasksBoth 0) (0 ∷ 1 ∷ []) (byTask1 0 ∷ []) ≡ 1)
-    × (countAtEnd (direct 2) tasksBoth (task tasksBoth 0) (0 ∷ 1 ∷ []) (byTask1 1 ∷ []) ≡ 2)
-    × (lostAtEnd (direct 2) tasksBoth (task tasksBoth 0) (0 ∷ 1 ∷ []) (byTask1 1 ∷ []) ≡ 0)
+-- the runs of task 0 with one preemption by task 1: after the reference of block 0, and after each of block 1
+abbrev countBoth : List Preemption → ℕ
+countBoth xs = countAtEnd (direct 2) tasksBoth (task tasksBoth 0) (0 ∷ 1 ∷ []) xs
+
+pub counts-both : (countBoth [] ≡ 2) × (countBoth (byTask1 0 1 ∷ []) ≡ 2) × (countBoth (byTask1 1 1 ∷ []) ≡ 1) × (countBoth (byTask1 1 2 ∷ []) ≡ 2)
+    × (lostAtEnd (direct 2) tasksBoth (task tasksBoth 0) (0 ∷ 1 ∷ []) (byTask1 0 1 ∷ []) ≡ 1)
 unfolding nothing
 counts-both = (refl, refl, refl, refl, refl)
 
@@ -82,12 +82,17 @@ other-path (b ∷ p) (z, w) = rw (z, alone z w)
 pub both-never : (r : DisturbedRun tasksBoth) → r .p ≡ 0 → OnceBy 1 (r .preemptions) → D (direct 2) r ≡ U (direct 2) r + pairNumber (direct 2) (task tasksBoth 0) (task tasksBoth 1) → ⊥
 both-never r z (x, one, by) e = go (r .p) (r .path) (r .preemptions) z one (r .complete) (r .each) e
   where
-    at : (point : ℕ) → point < 2 → countAtEnd (direct 2) tasksBoth (task tasksBoth 0) (0 ∷ 1 ∷ []) (byTask1 point ∷ []) ≡ 2
-    at zero l = counts-both .1
-    at (suc zero) l = counts-both .3
-    at (suc (suc point)) l = absurd (omega arith)
+    at : (position done : ℕ) → position < 2 → Done (block (task tasksBoth 0) (getD (0 ∷ 1 ∷ []) position 0) .references) done → countBoth (byTask1 position done ∷ []) ≤ 2
+    at zero zero l h = absurd (omega (arith, h .0))
+    at zero (suc zero) l h = omega (arith, counts-both)
+    at zero (suc (suc done)) l h = absurd (omega (arith, h .1))
+    at (suc zero) zero l h = absurd (omega (arith, h .0))
+    at (suc zero) (suc zero) l h = omega (arith, counts-both)
+    at (suc zero) (suc (suc zero)) l h = omega (arith, counts-both)
+    at (suc zero) (suc (suc (suc done))) l h = absurd (omega (arith, h .1))
+    at (suc (suc position)) done l h = absurd (omega arith)
 
-    once : (x : Preemption) → x .by ≡ 1 → x .path ≡ 0 ∷ [] → x ≡ byTask1 (x .point)
+    once : (x : Preemption) → x .by ≡ 1 → x .path ≡ 0 ∷ [] → x ≡ byTask1 (x .position) (x .done)
     once x b q = rw (b, q)
 
     go : (p : ℕ) (path : List ℕ) (xs : List Preemption) → p ≡ 0 → xs ≡ x ∷ [] → Complete (task tasksBoth p) path → Each (Preempts tasksBoth p path) xs
@@ -98,9 +103,10 @@ both-never r z (x, one, by) e = go (r .p) (r .path) (r .preemptions) z one (r .c
         let there = only-path path c0 in
         let (pre, none) = rw o at h in
         let q = other-path (x .path) (rw by at (pre .complete)) in
-        let in-path : x .point < 2 = rw there at (pre .inPath) in
-        let is : xs ≡ byTask1 (x .point) ∷ [] = o ∙ rw (once x by q) in
-        omega (arith, rw (z, there, is) at e, at (x .point) in-path, counts-both .0, number-both)
+        let in-path : x .position < 2 = rw there at (pre .inPath) in
+        let right : Done (block (task tasksBoth 0) (getD (0 ∷ 1 ∷ []) (x .position) 0) .references) (x .done) = rw (z, there) at (pre .right) in
+        let is : xs ≡ byTask1 (x .position) (x .done) ∷ [] = o ∙ rw (once x by q) in
+        omega (arith, rw (z, there, is) at e, at (x .position) (x .done) in-path right, counts-both .0, number-both)
 
 -- ---- document 01's count
 
@@ -110,28 +116,10 @@ same-numbers = (refl, refl)
 
 rulesSame : Rules tasksSame
 unfolding nothing
-rulesSame = record { some = some; complete = complete; real = real }
-  where
-    some : (j : ℕ) → j < 2 → 0 < length (task tasksSame j)
-    some zero h = omega arith
-    some (suc zero) h = omega arith
-    some (suc (suc j)) h = absurd (omega arith)
-
-    complete : (j b : ℕ) → j < 2 → b < length (task tasksSame j) → OnCompletePath (task tasksSame j) b
-    complete zero zero h l = (0 ∷ [], (refl, stay {b = 0} (omega arith)), refl)
-    complete zero (suc b) h l = absurd (omega arith)
-    complete (suc zero) zero h l = (0 ∷ [], (refl, stay {b = 0} (omega arith)), refl)
-    complete (suc zero) (suc b) h l = absurd (omega arith)
-    complete (suc (suc j)) b h l = absurd (omega arith)
-
-    real : (j : ℕ) → All Real (memoryBlocks (task tasksSame j))
-    real zero = (λ e. omega arith, tt)
-    real (suc zero) = (λ e. omega arith, tt)
-    real (suc (suc j)) = tt
+rulesSame =
+    rules-two (task tasksSame 0) (task tasksSame 1) (omega arith) (omega arith) (one-complete (task tasksSame 0) refl) (one-complete (task tasksSame 1) refl)
+    (λ e. omega arith, tt) (λ e. omega arith, tt)
 
 -- no run of task 0 with exactly one preemption, by task 1, loses the hit that it counts
 pub not-used-number : (r : DisturbedRun tasksSame) → r .p ≡ 0 → OnceBy 1 (r .preemptions) → lostHits (direct 1) r ≡ usedNumber (direct 1) (task tasksSame 0) (task tasksSame 1) → ⊥
-not-used-number r z (x, one, by) e = omega (arith, e, same-numbers, bounded (direct 1) tasksSame rulesSame r .lost, sum-none (r .p) (r .preemptions) z one)
-  where
-    sum-none : (p : ℕ) (xs : List Preemption) → p ≡ 0 → xs ≡ x ∷ [] → pairSum (direct 1) tasksSame p xs ≡ 0
-    sum-none p xs z o = rw (z, o, by) (omega (arith, same-numbers .1))
+not-used-number r z one e = omega (arith, e, same-numbers, once-le (direct 1) tasksSame rulesSame r 0 1 z one)

@@ -4,7 +4,7 @@ use mathlib.Core.Bool.{Bool, true, false, _&&_, cond}
 use mathlib.Core.List.{List, [], _∷_, _++_, map}
 use Prim.Native.Nat.{ℕ, zero, suc, _*_, _^_}
 use lib.Dec.{eqb, ltb}
-use lib.ListN.{length}
+use lib.ListN.{length, take, drop}
 use Rattle.cache.specs.Cache.{Cache, Row, emptyRow, withReferences}
 use Rattle.cache.specs.Firsts.{firstsOver}
 use Rattle.cache.specs.Sets.{usefulReplaced, usefulUsed}
@@ -109,20 +109,52 @@ living k t b = sorted (rowsAt b (liveStates k t))
 
 -- ---- the pair number
 
+-- the blocks with the rows before them, where none of their references is done: the reaching states of the predecessors, and the empty row too
+-- for block 0
+abbrev pub entering : Cache → Task → List State
+entering k t =
+    map (λ (s : ℕ). (s, emptyRow k)) (inside t (0 ∷ []))
+    ++ nexts (λ (x : State). map (λ (s : ℕ). (s, x .1)) (inside t (block t (x .0) .successors))) (reachingStates k t)
+
+-- `left` numbers, from `from` on
+abbrev pub upFrom : ℕ → ℕ → List ℕ
+upFrom from zero = []
+upFrom from (suc left) = from ∷ upFrom (suc from) left
+
+-- how many of the references of a block may be done
+abbrev pub dones : List ℕ → List ℕ
+dones [] = 0 ∷ []
+dones (m ∷ ms) = upFrom 1 (length (m ∷ ms))
+
 -- whether the block is unmasked
 abbrev pub unmasked : Task → ℕ → Bool
 unmasked t b = eqb (block t b .flags) 0
 
--- the most that v counts over a reaching row and a live row of one block of i that passes the test, and a row that j ends with
-abbrev pub most : Count → Cache → Task → Task → (ℕ → Bool) → ℕ
-most v k i j test =
-    best (λ (x : State). cond (test (x .0)) (best (λ (l : Row). best (λ (f : Row). v (x .1) l f) (rowsAt (end j) (reachingStates k j))) (rowsAt (x .0) (liveStates k i))) 0)
-    (reachingStates k i)
+-- how many references of the block b may be done where a preemption comes, and all of them
+abbrev pub allowed : Task → ℕ → List ℕ
+allowed t b = cond (unmasked t b) (dones (block t b .references)) []
+
+abbrev pub allDone : Task → ℕ → List ℕ
+allDone t b = length (block t b .references) ∷ []
+
+-- the rows at the point of the block of a state where d references are done: from the row before the block, and from a live row of it
+abbrev pub doneRow : Cache → Task → State → ℕ → Row
+doneRow k t x d = withReferences k (x .1) (take d (block t (x .0) .references))
+
+abbrev pub leftRow : Cache → Task → ℕ → ℕ → Row → Row
+leftRow k t b d l = firstsOver k (drop d (block t b .references)) l
+
+-- the most that v counts over a reaching row and a live row of one point of i, and a row that j ends with; `points` tells for each block how many
+-- references are done at the points that count
+abbrev pub most : Count → Cache → Task → Task → (ℕ → List ℕ) → ℕ
+most v k i j points =
+    best (λ (x : State). best (λ (d : ℕ). best (λ (l : Row). best (λ (f : Row). v (doneRow k i x d) (leftRow k i (x .0) d l) f) (rowsAt (end j) (reachingStates k j)))
+    (rowsAt (x .0) (liveStates k i))) (points (x .0))) (entering k i)
 
 -- the pair number of task i preempted by task j, in a cache
 abbrev pub pairNumber : Cache → Task → Task → ℕ
-pairNumber k i j = most (usefulReplaced k) k i j (unmasked i)
+pairNumber k i j = most (usefulReplaced k) k i j (allowed i)
 
--- the number before document 02, Point 5
+-- by the count before document 02, Point 5
 abbrev pub usedNumber : Cache → Task → Task → ℕ
-usedNumber k i j = most (usefulUsed k) k i j (unmasked i)
+usedNumber k i j = most (usefulUsed k) k i j (allowed i)

@@ -1,4 +1,5 @@
--- Demand 3 over tasks, with document 02, Points 1 and 5: what a whole disturbed run can cost, and that each pair number is reached. Definitions only.
+-- Demand 3 over tasks, with document 02, Points 1, 5 and 6 ("bounds and reached runs are meant over these points too"): what a whole disturbed run can
+-- cost, and that each pair number is reached. Definitions only.
 use mathlib.Core.Path.{_≡_}
 use mathlib.Core.Logic.{_≢_}
 use mathlib.Core.List.{List, [], _∷_}

@@ -57,3 +57,13 @@ tasksBoth = (basic (1 ∷ []) (0 ∷ []) ∷ basic [] (0 ∷ 1 ∷ []) ∷ []) �
 -- n = 1: a loop over 2; the other task reads 2
 abbrev pub tasksSame : List Task
 tasksSame = (basic (0 ∷ []) (2 ∷ []) ∷ []) ∷ (basic [] (2 ∷ []) ∷ []) ∷ []
+
+-- ---- document 02, Point 6: preemptions between two references
+
+-- n = 1: one block reads 6 twice; the other task reads 4
+abbrev pub tasksTwice : List Task
+tasksTwice = (basic [] (6 ∷ 6 ∷ []) ∷ []) ∷ (basic [] (4 ∷ []) ∷ []) ∷ []
+
+-- n = 1: a masked block reads 6, then a block reads 6; the other task reads 4
+abbrev pub tasksEntered : List Task
+tasksEntered = (masked (1 ∷ []) (6 ∷ []) ∷ basic [] (6 ∷ []) ∷ []) ∷ (basic [] (4 ∷ []) ∷ []) ∷ []

@@ -1,45 +1,50 @@
--- Document 01, "Paths and cache", and document 02, Points 1 and 5: the pair number, against paths. Definitions only.
+-- Document 01, "Paths and cache", and document 02, Points 1, 5 and 6: the pair number, against paths. Definitions only.
 use mathlib.Core.Path.{_≡_}
 use mathlib.Core.Logic.{_⊎_}
 use Prim.Native.Nat.{ℕ, _≤_}
 use Rattle.cache.specs.Cache.{Cache, Row}
 use Rattle.cache.specs.Sets.{usefulReplaced, usefulUsed}
-use Rattle.model.specs.Tasks.{Task, Unmasked, end}
-use Rattle.model.specs.States.{Reaches, Lives}
+use Rattle.model.specs.Tasks.{Task, Unmasked, Allows, AllDone, end}
+use Rattle.model.specs.States.{Reaches, ReachesPoint, LivesPoint}
 
--- a number for a reaching row and a live row of one block, and an end row of another task
+-- a number for a reaching row and a live row of one point, and an end row of another task
 abbrev pub Count : Type 0
 Count = Row → Row → Row → ℕ
 
--- three rows that paths make: a reaching and a live one of a block of i, and one that j ends with
+-- three rows that paths make: a reaching and a live one where `done` references of a block of i are done, and one that j ends with
 pub record Rows (k : Cache) (i j : Task) : Type 0 where
   pub at : ℕ
+  pub done : ℕ
   pub reaching : Row
   pub live : Row
   pub ending : Row
-  pub reaches : Reaches k i at reaching
-  pub lives : Lives k i at live
+  pub reaches : ReachesPoint k i at done reaching
+  pub lives : LivesPoint k i at done live
   pub ends : Reaches k j (end j) ending
 
 -- what v counts on three such rows
 abbrev pub counted : Count → {k : Cache} {i j : Task} → Rows k i j → ℕ
 counted v x = v (x .reaching) (x .live) (x .ending)
 
--- x is the most that v counts over all rows that paths make at the blocks of i with the property, and 0 where there are none
-pub record Most (v : Count) (k : Cache) (i j : Task) (At : ℕ → Type 0) (x : ℕ) : Type 0 where
-  pub bound : (rows : Rows k i j) → At (rows .at) → counted v rows ≤ x
-  pub attained : (x ≡ 0) ⊎ ((rows : Rows k i j) × At (rows .at) × (counted v rows ≡ x))
+-- x is the most that v counts over all rows that paths make at the points of i with the property, and 0 where there are none
+pub record Most (v : Count) (k : Cache) (i j : Task) (At : ℕ → ℕ → Type 0) (x : ℕ) : Type 0 where
+  pub bound : (rows : Rows k i j) → At (rows .at) (rows .done) → counted v rows ≤ x
+  pub attained : (x ≡ 0) ⊎ ((rows : Rows k i j) × At (rows .at) (rows .done) × (counted v rows ≡ x))
 
 -- "Pair number of task i preempted by task j: the most cache blocks .., over all blocks, row pairs and used sets."; Point 1: "Pair numbers range
 -- over blocks with flag 0 and are 0 if a task has none."; Point 5, which puts end rows in place of used sets: "A cache block counts when it is
--- useful in i and the end state of j holds something there other than the useful memory block."
+-- useful in i and the end state of j holds something there other than the useful memory block."; Point 6: "Pair numbers range over these points"
 abbrev pub PairNumber : Cache → Task → Task → ℕ → Type 0
-PairNumber k i j x = Most (usefulReplaced k) k i j (Unmasked i) x
+PairNumber k i j x = Most (usefulReplaced k) k i j (Allows i) x
 
--- the number before Point 5: "the most cache blocks both useful in i and used by j"
+-- by the count before Point 5: "the most cache blocks both useful in i and used by j"
 abbrev pub UsedNumber : Cache → Task → Task → ℕ → Type 0
-UsedNumber k i j x = Most (usefulUsed k) k i j (Unmasked i) x
+UsedNumber k i j x = Most (usefulUsed k) k i j (Allows i) x
 
--- the number of document 01 alone, over masked blocks too
+-- the number before Point 6, over the ends of the unmasked blocks alone
+abbrev pub NumberAtEnds : Cache → Task → Task → ℕ → Type 0
+NumberAtEnds k i j x = Most (usefulReplaced k) k i j (λ (b d : ℕ). Unmasked i b × AllDone i b d) x
+
+-- the number of document 01 alone, over the ends of all blocks, masked ones too
 abbrev pub NumberOverAll : Cache → Task → Task → ℕ → Type 0
-NumberOverAll k i j x = Most (usefulUsed k) k i j (λ (b : ℕ). Unit {0}) x
+NumberOverAll k i j x = Most (usefulUsed k) k i j (AllDone i) x

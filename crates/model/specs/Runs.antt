@@ -1,36 +1,42 @@
--- Document 01, "Paths and cache", and document 02, Points 1 and 5: disturbed runs, U, D and the lost hits. Definitions only.
+-- Document 01, "Paths and cache", and document 02, Points 1, 5 and 6: disturbed runs, U, D and the lost hits. Definitions only.
 use mathlib.Core.Path.{_≡_}
-use mathlib.Core.Logic.{_≢_}
-use mathlib.Core.Bool.{Bool, not, _&&_, cond}
+use mathlib.Core.Logic.{_≢_, _⊎_}
+use mathlib.Core.Bool.{Bool, not, _&&_}
 use mathlib.Core.List.{List, [], _∷_, _++_}
 use Prim.Native.Nat.{ℕ, suc, _+_, _≤_, _<_}
 use lib.Dec.{eqb}
 use lib.ListN.{length, getD}
 use Rattle.cache.specs.Sum.{bit}
 use Rattle.cache.specs.Cache.{Cache, Row, emptyRow, hits, withReference, withReferences}
-use Rattle.model.specs.Lists.{Each}
-use Rattle.model.specs.Tasks.{Block, Task, block, Unmasked, Path, Complete, references, task}
+use Rattle.model.specs.Lists.{Each, keep}
+use Rattle.model.specs.Tasks.{Block, Task, block, Unmasked, Done, Path, Complete, references, task}
 
--- "A preemption is a point (a position in the path, from 0), a task other than p and a complete path of that task."
+-- "A preemption is a point .., a task other than p and a complete path of that task."; Point 6: "A point becomes two numbers: the position in the
+-- path, and how many references of that block are done"
 pub record Preemption : Type 0 where
-  pub point : ℕ
+  pub position : ℕ
+  pub done : ℕ
   pub by : ℕ
   pub path : Path
 
--- a preemption of the path of the task p, in the file of the tasks ts; Point 1: "preemptions avoid masked blocks (its path may pass them)",
--- so that the block at the point is unmasked
+-- a preemption of the path of the task p, in the file of the tasks ts; the block at its position is unmasked (Point 1: "preemptions avoid masked
+-- blocks (its path may pass them)"), and the number of its references that are done is right (Point 6)
 pub record Preempts (ts : List Task) (p : ℕ) (path : Path) (x : Preemption) : Type 0 where
-  pub inPath : x .point < length path
+  pub inPath : x .position < length path
+  pub right : Done (block (task ts p) (getD path (x .position) 0) .references) (x .done)
   pub there : x .by < length ts
   pub other : x .by ≢ p
-  pub unmasked : Unmasked (task ts p) (getD path (x .point) 0)
+  pub unmasked : Unmasked (task ts p) (getD path (x .position) 0)
   pub complete : Complete (task ts (x .by)) (x .path)
 
--- "Points .. never fall; equal ones are allowed."
+-- the point (j, e) doesn't come before the point (i, d): "Pairs of numbers never fall, position first"
+abbrev pub NotBefore : ℕ → ℕ → ℕ → ℕ → Type 0
+NotBefore i d j e = (i < j) ⊎ ((i ≡ j) × (d ≤ e))
+
 abbrev pub NeverFall : List Preemption → Type 0
 NeverFall [] = Unit {0}
 NeverFall (x ∷ []) = Unit {0}
-NeverFall (x ∷ y ∷ xs) = (x .point ≤ y .point) × NeverFall (y ∷ xs)
+NeverFall (x ∷ y ∷ xs) = NotBefore (x .position) (x .done) (y .position) (y .done) × NeverFall (y ∷ xs)
 
 -- "A disturbed run is, in one accepted file, a task p, a complete path of p and a list of preemptions, which may be empty.
 -- .. Points lie in the path and never fall"
@@ -47,6 +53,31 @@ pub record DisturbedRun (ts : List Task) : Type 0 where
 abbrev pub OnceBy : ℕ → List Preemption → Type 0
 OnceBy j xs = (x : Preemption) × (xs ≡ x ∷ []) × (x .by ≡ j)
 
+-- ---- the points of a path
+
+-- a point, with the reference that leads to it: none in a block without references
+pub record Point : Type 0 where
+  pub position : ℕ
+  pub done : ℕ
+  pub reference : List ℕ
+
+-- the points of the block at position i after each of the references ms, where d come before them
+abbrev pub pointsFrom : ℕ → ℕ → List ℕ → List Point
+pointsFrom i d [] = []
+pointsFrom i d (m ∷ ms) = record { position = i; done = suc d; reference = m ∷ [] } ∷ pointsFrom i (suc d) ms
+
+-- "from 1 to all, or 0 where it has none"
+abbrev pub blockPoints : ℕ → List ℕ → List Point
+blockPoints i [] = record { position = i; done = 0; reference = [] } ∷ []
+blockPoints i (m ∷ ms) = pointsFrom i 0 (m ∷ ms)
+
+-- those of the blocks of a path, whose first is at position i
+abbrev pub points : Task → ℕ → Path → List Point
+points t i [] = []
+points t i (b ∷ p) = blockPoints i (block t b .references) ++ points t (suc i) p
+
+-- ---- the run
+
 -- "The run keeps one row and one count,"
 pub record RowCount : Type 0 where
   pub row : Row
@@ -56,7 +87,7 @@ pub record RowCount : Type 0 where
 abbrev pub atFirst : Cache → RowCount
 atFirst k = record { row = emptyRow k; count = 0 }
 
--- "it makes the references of that block in order and adds 1 for each miss,"
+-- "it makes the references .. in order and adds 1 for each miss,"
 abbrev pub ownReferences : Cache → RowCount → List ℕ → RowCount
 ownReferences k s [] = s
 ownReferences k s (m ∷ ms) = ownReferences k (record { row = withReference k (s .row) m; count = s .count + bit (not (hits k (s .row) m)) }) ms
@@ -71,19 +102,21 @@ preemptedBy k ts s [] = s
 preemptedBy k ts s (x ∷ xs) = preemptedBy k ts (preempted k ts s x) xs
 
 -- "the preemptions with this point in list order"
-abbrev pub withPoint : ℕ → List Preemption → List Preemption
-withPoint i [] = []
-withPoint i (x ∷ xs) = cond (eqb (x .point) i) (x ∷ withPoint i xs) (withPoint i xs)
+abbrev pub withPoint : ℕ → ℕ → List Preemption → List Preemption
+withPoint i d xs = keep (λ (x : Preemption). eqb (x .position) i && eqb (x .done) d) xs
 
--- "It takes the positions in rising order. At each it makes the references of that block .., then takes the preemptions with this
--- point": the path's blocks from the position i on
-abbrev pub positions : Cache → List Task → Task → List Preemption → ℕ → RowCount → Path → RowCount
-positions k ts t xs i s [] = s
-positions k ts t xs i s (b ∷ p) = positions k ts t xs (suc i) (preemptedBy k ts (ownReferences k s (block t b .references)) (withPoint i xs)) p
+-- what stands after a point: its reference is made, "then [the run] takes the preemptions with this point"
+abbrev pub afterPoint : Cache → List Task → List Preemption → RowCount → Point → RowCount
+afterPoint k ts xs s x = preemptedBy k ts (ownReferences k s (x .reference)) (withPoint (x .position) (x .done) xs)
+
+-- "It takes the positions in rising order.", and in each the points in rising order: Point 6, "A preemption may follow every single reference."
+abbrev pub run : Cache → List Task → List Preemption → RowCount → List Point → RowCount
+run k ts xs s [] = s
+run k ts xs s (x ∷ rest) = run k ts xs (afterPoint k ts xs s x) rest
 
 -- the count at the end of the path of a task, with a list of preemptions
 abbrev pub countAtEnd : Cache → List Task → Task → Path → List Preemption → ℕ
-countAtEnd k ts t path xs = positions k ts t xs 0 (atFirst k) path .count
+countAtEnd k ts t path xs = run k ts xs (atFirst k) (points t 0 path) .count
 
 -- "D is the count at the end;"
 abbrev pub D : Cache → {ts : List Task} → DisturbedRun ts → ℕ
@@ -100,15 +133,13 @@ abbrev pub hitsOf : Cache → Row → List ℕ → List Bool
 hitsOf k row [] = []
 hitsOf k row (m ∷ ms) = hits k row m ∷ hitsOf k (withReference k row m) ms
 
--- the same of the run's own references, in order: the path's blocks from the position i on, with the rows that `positions` has there
-abbrev pub hitsFrom : Cache → List Task → Task → List Preemption → ℕ → RowCount → Path → List Bool
-hitsFrom k ts t xs i s [] = []
-hitsFrom k ts t xs i s (b ∷ p) =
-    hitsOf k (s .row) (block t b .references)
-    ++ hitsFrom k ts t xs (suc i) (preemptedBy k ts (ownReferences k s (block t b .references)) (withPoint i xs)) p
+-- the same of the run's own references, in order: those of some points, with the rows that `run` has there
+abbrev pub hitsFrom : Cache → List Task → List Preemption → RowCount → List Point → List Bool
+hitsFrom k ts xs s [] = []
+hitsFrom k ts xs s (x ∷ rest) = hitsOf k (s .row) (x .reference) ++ hitsFrom k ts xs (afterPoint k ts xs s x) rest
 
 abbrev pub ownHits : Cache → List Task → Task → Path → List Preemption → List Bool
-ownHits k ts t path xs = hitsFrom k ts t xs 0 (atFirst k) path
+ownHits k ts t path xs = hitsFrom k ts xs (atFirst k) (points t 0 path)
 
 -- the places where the first list has a hit and the second has none
 abbrev pub lostOf : List Bool → List Bool → ℕ

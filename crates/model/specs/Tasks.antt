@@ -1,10 +1,10 @@
--- Document 01, "The project file" and "Paths and cache", and document 02, Point 1: basic blocks, tasks, masked blocks, paths and the rules
--- that tasks keep. Definitions only.
+-- Document 01, "The project file" and "Paths and cache", and document 02, Points 1 and 6: basic blocks, tasks, masked blocks, paths, points and the
+-- rules that tasks keep. Definitions only.
 use mathlib.Core.Path.{_≡_}
 use mathlib.Core.Logic.{_≢_}
 use mathlib.Core.Bool.{true}
 use mathlib.Core.List.{List, [], _∷_, _++_}
-use Prim.Native.Nat.{ℕ, _-_, _<_}
+use Prim.Native.Nat.{ℕ, _-_, _≤_, _<_}
 use lib.Dec.{eqb}
 use lib.ListN.{length, getD}
 use Rattle.cache.specs.References.{Real, All}
@@ -34,6 +34,19 @@ Unmasked t b = block t b .flags ≡ 0
 abbrev pub SomeUnmasked : Task → Type 0
 SomeUnmasked t = (b : ℕ) × (b < length t) × Unmasked t b
 
+-- document 02, Point 6: "how many references of that block are done, from 1 to all, or 0 where it has none"
+abbrev pub Done : List ℕ → ℕ → Type 0
+Done [] d = d ≡ 0
+Done (m ∷ ms) d = (1 ≤ d) × (d ≤ length (m ∷ ms))
+
+-- "A preemption may follow every single reference. .. Masked blocks allow none.": it may come in the block b where d references are done
+abbrev pub Allows : Task → ℕ → ℕ → Type 0
+Allows t b d = Unmasked t b × Done (block t b .references) d
+
+-- all references of the block b are done
+abbrev pub AllDone : Task → ℕ → ℕ → Type 0
+AllDone t b d = d ≡ length (block t b .references)
+
 -- "Block 0 is the entry, block B - 1 the end."
 abbrev pub end : Task → ℕ
 end t = length t - 1
@@ -46,6 +59,10 @@ Path = List ℕ
 pub data PathFrom (t : Task) : ℕ → Path → ℕ → Type 0 where
   stay : {b : ℕ} → b < length t → PathFrom t b [] b
   step : {b c e : ℕ} {p : Path} → mem eqb c (block t b .successors) ≡ true → PathFrom t c p e → PathFrom t b (c ∷ p) e
+
+-- a path from block 0 to the block b, by its blocks before b
+abbrev pub PathTo : Task → Path → ℕ → Type 0
+PathTo t before b = (p : Path) × PathFrom t 0 p b × (0 ∷ p ≡ before ++ (b ∷ []))
 
 -- "A complete path begins in block 0 and ends in block B - 1; it may pass through the end block earlier."
 abbrev pub Complete : Task → Path → Type 0

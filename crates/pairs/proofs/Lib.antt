@@ -1,4 +1,3 @@
 pub mod ReplacedSets
 pub mod UsefulSets
 pub mod Meeting
-pub mod PairNumbers

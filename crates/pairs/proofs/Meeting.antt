@@ -1,10 +1,10 @@
--- Rows that are met by end rows: the most in common, and the numbers after one row, after the rows of a block and after the blocks of a task.
--- A number is the largest so far, and the largest of more rows is the larger of two largest.
-use mathlib.Core.Path.{_≡_, refl, sym, ap, ap₂, _∙_}
+-- Rows that are met by end rows: the most in common, and the numbers after one point and after more points.
+-- A number is the largest so far, and the largest over more points is the larger of two largest.
+use mathlib.Core.Path.{_≡_, refl, sym, ap, _∙_}
 use mathlib.Core.Bool.{Bool, true, false}
-use mathlib.Core.List.{List, [], _∷_, _++_}
+use mathlib.Core.List.{List, [], _∷_}
 use Prim.Native.Nat.{ℕ, zero, suc, _+_, _-_, _*_, _/_, _%_, _^_, _≤_, _<_, min, max}
-use native.Mathlib.Nat.{le-trans, zero-add, add-zero, pow-suc}
+use native.Mathlib.Nat.{le-trans, pow-suc}
 use native.Mathlib.Numerals.{add-one}
 use native.Mathlib.Omega.{arith}
 use lib.Dec.{eqb}
@@ -13,12 +13,9 @@ use lib.Seq.{drop-cons, getD-set-same, getD-set-other}
 use lib.Bits.{bitAnd, and-step, and-zero-l}
 use lib.Count.{ones, ones-step, ones-le}
 use borrow.Author.Tests.{eqb-true, eqb-false}
-use Rattle.cache.specs.Sets.{inSet}
-use Rattle.model.specs.Lists.{best}
 use Rattle.rows.specs.Rows.{rowsOf}
 use Rattle.gather.specs.Memory.{heldRows}
-use Rattle.pairs.specs.Pairs.{mostCommon, setsMost, rowMost, blockMost, within, taskMost, endsOf, Met}
-use Rattle.pairs.proofs.ReplacedSets.{rows-more}
+use Rattle.pairs.specs.Pairs.{mostCommon, setsMost, endsOf, Met}
 
 -- ---- the most that a set has in common with one of some sets
 
@@ -65,33 +62,6 @@ most-ones u (v ∷ vs) h = omega (arith, and-ones 32 u v h, most-ones u vs h)
 pub most-few : (u : ℕ) (vs : List ℕ) → u < 2 ^ 32 → mostCommon u vs ≤ 32
 most-few u vs h = le-trans (most-ones u vs h) (ones-le 32 u h)
 
--- ---- the largest over more rows; the row numbered k was lent as a part from w k to w k + w
-
-best-append : (f : List ℕ → ℕ) (a b : List (List ℕ)) → best f (a ++ b) ≡ max (best f a) (best f b)
-best-append f [] b = omega arith
-best-append f (x ∷ a) b = omega (arith, best-append f a b)
-
-best-more : (f : List ℕ → ℕ) (w k : ℕ) (l : List ℕ) → best f (rowsOf w (k + 1) l) ≡ max (best f (rowsOf w k l)) (f (take (w * k + w - w * k) (drop (w * k) l)))
-best-more f w k l = let row = take (w * k + w - w * k) (drop (w * k) l) in ap (best f) (rows-more w k l) ∙ best-append f (rowsOf w k l) (row ∷ []) ∙ omega arith
-
-block-more : (w k : ℕ) (reaching : List ℕ) (ls fs : List (List ℕ))
-    → blockMost (rowsOf w (k + 1) reaching) ls fs ≡ max (blockMost (rowsOf w k reaching) ls fs) (rowMost (take (w * k + w - w * k) (drop (w * k) reaching)) ls fs)
-block-more w k reaching ls fs = best-more (λ (r : List ℕ). rowMost r ls fs) w k reaching
-
-task-last : (rs ls : ℕ → List (List ℕ)) (n b : ℕ) (fs : List (List ℕ)) → taskMost rs ls (suc n) b fs ≡ max (taskMost rs ls n b fs) (blockMost (rs (b + n)) (ls (b + n)) fs)
-task-last rs ls zero b fs = let e = ap (λ (i : ℕ). blockMost (rs i) (ls i) fs) (add-zero b) in omega (arith, e)
-task-last rs ls (suc n) b fs =
-    let z : suc b + n ≡ b + suc n = omega arith in
-    let e = ap (λ (i : ℕ). blockMost (rs i) (ls i) fs) z in
-    omega (arith, e, task-last rs ls n (suc b) fs)
-
-task-more : (rs ls : ℕ → List (List ℕ)) (k : ℕ) {r l : List (List ℕ)} → r ≡ rs k → l ≡ ls k → (fs : List (List ℕ))
-    → taskMost rs ls (k + 1) 0 fs ≡ max (taskMost rs ls k 0 fs) (blockMost r l fs)
-task-more rs ls k {r} {l} e d fs =
-    ap (λ (n : ℕ). taskMost rs ls n 0 fs) (add-one k)
-    ∙ task-last rs ls k 0 fs
-    ∙ ap₂ (λ (x y : List (List ℕ)). max (taskMost rs ls k 0 fs) (blockMost x y fs)) (ap rs (zero-add k) ∙ sym e) (ap ls (zero-add k) ∙ sym d)
-
 -- the rows of block b, or the end rows of task b, were lent as a part from 32 w b to 32 w b + 32 w
 pub held-at : (w : ℕ) (rows counts : List ℕ) (b : ℕ)
     → rowsOf w (getD counts b 0) (take (32 * w * b + 32 * w - 32 * w * b) (drop (32 * w * b) rows)) ≡ heldRows w rows counts b
@@ -107,7 +77,7 @@ module _ (w : ℕ) (ends counts : List ℕ) where
       → x ≡ max n (most (rowsOf w (getD counts j 0) (take (32 * w * j + 32 * w - 32 * w * j) (drop (32 * w * j) ends)))) → x ≡ max n (most (endsOf w ends counts j))
   lent-most most j n e = e ∙ ap (λ (fs : List (List ℕ)). max n (most fs)) (held-at w ends counts j)
 
-  -- none is met yet: by no task, and no row
+  -- none is met yet: by no task, and at no point
   pub met-start : (most : List (List ℕ) → ℕ) (old : List ℕ) → Met most w ends counts 0 old old
   met-start most old = record { long = refl; each = λ j h. absurd (omega arith); rest = λ j h. refl }
 
@@ -136,8 +106,8 @@ module _ (w : ℕ) (ends counts : List ℕ) where
       record { long = p .long; each = λ j h. p .each j h ∙ ap (max (getD n j 0)) (sym (e (endsOf w ends counts j))); rest = p .rest }
 
   module _ (tasks : ℕ) {n n' n'' : List ℕ} where
-    -- rows after rows
-    met-more : {a b : List (List ℕ) → ℕ} (all : List (List ℕ) → ℕ) → ((fs : List (List ℕ)) → all fs ≡ max (a fs) (b fs)) → Met a w ends counts tasks n n'
+    -- points after points
+    pub met-more : {a b : List (List ℕ) → ℕ} (all : List (List ℕ) → ℕ) → ((fs : List (List ℕ)) → all fs ≡ max (a fs) (b fs)) → Met a w ends counts tasks n n'
         → Met b w ends counts tasks n' n'' → Met all w ends counts tasks n n''
     met-more all e p q =
         record {
@@ -145,29 +115,3 @@ module _ (w : ℕ) (ends counts : List ℕ) where
           each = λ j h. omega (arith, p .each j h, q .each j h, e (endsOf w ends counts j));
           rest = λ j h. q .rest j h ∙ p .rest j h;
         }
-
-    -- the reaching rows of a block, of which k are done
-    pub met-block : (k : ℕ) (reaching : List ℕ) (ls : List (List ℕ)) → Met (blockMost (rowsOf w k reaching) ls) w ends counts tasks n n'
-        → Met (rowMost (take (w * k + w - w * k) (drop (w * k) reaching)) ls) w ends counts tasks n' n''
-        → Met (blockMost (rowsOf w (k + 1) reaching) ls) w ends counts tasks n n''
-    met-block k reaching ls = met-more (blockMost (rowsOf w (k + 1) reaching) ls) (block-more w k reaching ls)
-
-    -- the blocks of a task, of which k are done
-    pub met-task : (k : ℕ) (rs ls : ℕ → List (List ℕ)) {r l : List (List ℕ)} → r ≡ rs k → l ≡ ls k → Met (taskMost rs ls k 0) w ends counts tasks n n'
-        → Met (blockMost r l) w ends counts tasks n' n'' → Met (taskMost rs ls (k + 1) 0) w ends counts tasks n n''
-    met-task k rs ls e d = met-more (taskMost rs ls (k + 1) 0) (task-more rs ls k e d)
-
-  -- the same where the rows are those of the blocks in a set: block k is in it, or it is not
-  module _ (tasks : ℕ) {n n' : List ℕ} (k s : ℕ) (rs ls : ℕ → List (List ℕ)) where
-    pub met-within : {n'' : List ℕ} {r l : List (List ℕ)} → inSet s k ≡ true → r ≡ rs k → l ≡ ls k
-        → Met (taskMost (within s rs) ls k 0) w ends counts tasks n n' → Met (blockMost r l) w ends counts tasks n' n''
-        → Met (taskMost (within s rs) ls (k + 1) 0) w ends counts tasks n n''
-    met-within {n'' = n''} {r = r} {l = l} h e d = met-task tasks k (within s rs) ls {r = r} {l = l} (rw h e) d
-
-    pub met-outside : inSet s k ≡ false → Met (taskMost (within s rs) ls k 0) w ends counts tasks n n' → Met (taskMost (within s rs) ls (k + 1) 0) w ends counts tasks n n'
-    met-outside h p = met-task tasks k (within s rs) ls {r = []} {l = ls k} (rw h) refl p (met-none (blockMost [] (ls k)) tasks n' (λ fs. refl))
-
--- a row that was lent is w numbers wide
-pub as-wide : (v w tasks lived : ℕ) (row live ends counts old new : List ℕ) → v ≡ w → Met (rowMost row (rowsOf v lived live)) v ends counts tasks old new
-    → Met (rowMost row (rowsOf w lived live)) w ends counts tasks old new
-as-wide v w tasks lived row live ends counts old new e h = rw (← e) h

@@ -1,4 +1,4 @@
--- The useful sets of a reaching row: the most that they have in common with what end rows replace is the most over the live rows that they are made
+-- The useful sets of a reaching row at a point: the most that they have in common with what end rows replace is the most over the live rows that they are made
 -- of, and what none of the tasks' unions can raise stays.
 use mathlib.Core.Path.{_≡_, refl, sym, ap, _∙_}
 use mathlib.Core.Bool.{Bool, true, false, true≢false}
@@ -14,8 +14,9 @@ use borrow.Author.Tests.{eqb-true, eqb-false, ltb-false}
 use Rattle.cache.specs.Sets.{bits}
 use Rattle.model.specs.Lists.{best}
 use Rattle.model.proofs.Membership.{or-left, or-right}
+use Rattle.rows.specs.Overlay.{overlay}
 use Rattle.rows.proofs.Parts.{lent-first}
-use Rattle.pairs.specs.Pairs.{usedSet, usefulSet, usefulSets, usefulSizes, UsefulSets, replacedSets, someReplaces, mostCommon, NoMoreThanAll, rowMost, usefulMost, someUses, mayRaise, someBelow, mayRaiseSome, endsOf, EndRows, Met}
+use Rattle.pairs.specs.Pairs.{usefulSet, keptSet, usefulSets, usefulSizes, UsefulSets, replacedSets, someReplaces, mostCommon, NoMoreThanAll, pointMost, usefulMost, someUses, mayRaise, someBelow, mayRaiseSome, endsOf, EndRows, Met}
 use Rattle.pairs.proofs.ReplacedSets.{all-bounds, stays-used, stays-replaced}
 
 -- ---- the sets are made of some live rows
@@ -35,30 +36,31 @@ size-at [] k h = absurd (omega arith)
 size-at (u ∷ us) zero h = refl
 size-at (u ∷ us) (suc k) h = size-at us k (omega arith)
 
-row-useful : (r : List ℕ) (ls fs : List (List ℕ)) → rowMost r ls fs ≡ usefulMost r (usefulSets r ls) fs
-row-useful r ls fs = best-map (λ (u : ℕ). mostCommon u (replacedSets r fs)) (λ (l : List ℕ). usefulSet r l) ls
+point-useful : (r rest : List ℕ) (ls fs : List (List ℕ)) → pointMost r rest ls fs ≡ usefulMost r (usefulSets r rest ls) fs
+point-useful r rest ls fs = best-map (λ (u : ℕ). mostCommon u (replacedSets r fs)) (λ (l : List ℕ). usefulSet r (overlay l rest)) ls
 
-module _ (r us sizes : List ℕ) (is : UsefulSets r us sizes) where
-  pub useful-most : (fs : List (List ℕ)) → rowMost r (is .lives) fs ≡ usefulMost r us fs
-  useful-most fs = row-useful r (is .lives) fs ∙ ap (λ (x : List ℕ). usefulMost r x fs) (sym (is .sets))
+module _ (r : List ℕ) (held : ℕ) (us sizes : List ℕ) (is : UsefulSets r held us sizes) where
+  pub useful-most : (fs : List (List ℕ)) → pointMost r (is .rest) (is .lives) fs ≡ usefulMost r us fs
+  useful-most fs = point-useful r (is .rest) (is .lives) fs ∙ ap (λ (x : List ℕ). usefulMost r x fs) (sym (is .sets))
 
   pub sizes-ones : sizes ≡ map ones us
-  sizes-ones = is .sized ∙ sym (map-map ones (λ (l : List ℕ). usefulSet r l) (is .lives)) ∙ ap (map ones) (sym (is .sets))
+  sizes-ones = is .sized ∙ sym (map-map ones (λ (l : List ℕ). usefulSet r (overlay l (is .rest))) (is .lives)) ∙ ap (map ones) (sym (is .sets))
 
   -- the first of the replaced sets were lent as a part, and all is their union
   pub part-bounded : (fs : List (List ℕ)) {part : List ℕ} {all : ℕ} → part ≡ replacedSets r fs → all ≡ bits (length r) (someReplaces fs r) → NoMoreThanAll us part all
   part-bounded fs e d =
       rw (e, d, is .sets)
-      (each-made (λ u. mostCommon u (replacedSets r fs) ≤ ones (bitAnd u (bits (length r) (someReplaces fs r)))) (λ (l : List ℕ). usefulSet r l)
-      (all-bounds r fs) (is .lives))
+      (each-made (λ u. mostCommon u (replacedSets r fs) ≤ ones (bitAnd u (bits (length r) (someReplaces fs r)))) (λ (l : List ℕ). usefulSet r (overlay l (is .rest)))
+      (λ l. all-bounds r fs (overlay l (is .rest))) (is .lives))
 
 -- the first n of the sets and of the sizes were lent as parts
-module _ (r : List ℕ) (ls : List (List ℕ)) (n : ℕ) (sets : List ℕ) (e : take n sets ≡ usefulSets r ls) where
-  pub lent-sets : (sizes : List ℕ) → take n sizes ≡ usefulSizes r ls → UsefulSets r (take (n - 0) (drop 0 sets)) (take (n - 0) (drop 0 sizes))
-  lent-sets sizes d = record { lives = ls; sets = lent-first n sets ∙ e; sized = lent-first n sizes ∙ d }
+module _ (r rest : List ℕ) (ls : List (List ℕ)) (n : ℕ) (sets : List ℕ) (e : take n sets ≡ usefulSets r rest ls) where
+  pub lent-sets : (sizes : List ℕ) {held : ℕ} → held ≡ keptSet r rest → take n sizes ≡ usefulSizes r rest ls
+      → UsefulSets r held (take (n - 0) (drop 0 sets)) (take (n - 0) (drop 0 sizes))
+  lent-sets sizes is d = record { rest = rest; lives = ls; kept-is = is; sets = lent-first n sets ∙ e; sized = lent-first n sizes ∙ d }
 
-  pub lent-useful : (fs : List (List ℕ)) → rowMost r ls fs ≡ usefulMost r (take (n - 0) (drop 0 sets)) fs
-  lent-useful fs = row-useful r ls fs ∙ ap (λ (us : List ℕ). usefulMost r us fs) (sym (lent-first n sets ∙ e))
+  pub lent-useful : (fs : List (List ℕ)) → pointMost r rest ls fs ≡ usefulMost r (take (n - 0) (drop 0 sets)) fs
+  lent-useful fs = point-useful r rest ls fs ∙ ap (λ (us : List ℕ). usefulMost r us fs) (sym (lent-first n sets ∙ e))
 
 -- ---- whether a number may be raised
 
@@ -82,22 +84,22 @@ module _ (test : ℕ → Bool) where
       go false q = q
 
 -- what may not raise a number leaves it
-stays : (row : List ℕ) (ls fs : List (List ℕ)) (number : ℕ) {held joined : ℕ} → held ≡ usedSet row → joined ≡ bits (length row) (someUses fs)
-    → mayRaise row held joined number fs ≡ false → number ≡ max number (rowMost row ls fs)
-stays row ls fs number {held} {joined} is union e = go (ltb number (ones (bitAnd held joined))) refl
+stays : (row rest : List ℕ) (ls fs : List (List ℕ)) (number : ℕ) {held joined : ℕ} → held ≡ keptSet row rest → joined ≡ bits (length row) (someUses fs)
+    → mayRaise row held joined number fs ≡ false → number ≡ max number (pointMost row rest ls fs)
+stays row rest ls fs number {held} {joined} is union e = go (ltb number (ones (bitAnd held joined))) refl
   where
-    go : (s : Bool) → ltb number (ones (bitAnd held joined)) ≡ s → number ≡ max number (rowMost row ls fs)
-    go false q = stays-used row ls fs number is (ltb-false number (ones (bitAnd held joined)) q) refl union
+    go : (s : Bool) → ltb number (ones (bitAnd held joined)) ≡ s → number ≡ max number (pointMost row rest ls fs)
+    go false q = stays-used row rest ls fs number is (ltb-false number (ones (bitAnd held joined)) q) refl union
     go true q =
         let all = bits (length row) (someReplaces fs row) in
-        stays-replaced row ls fs number is (ltb-false number (ones (bitAnd held all)) (rw q at e)) refl refl
+        stays-replaced row rest ls fs number is (ltb-false number (ones (bitAnd held all)) (rw q at e)) refl refl
 
 -- where none may be raised, the numbers are met as they are
-pub met-as-is : (row ends counts unions numbers : List ℕ) (ls : List (List ℕ)) (tasks : ℕ) {held : ℕ} → EndRows (length row) ends counts unions tasks → held ≡ usedSet row
-    → mayRaiseSome row held ends counts unions numbers tasks ≡ false → Met (rowMost row ls) (length row) ends counts tasks numbers numbers
-met-as-is row ends counts unions numbers ls tasks {held} rows is e =
+pub met-as-is : (row rest ends counts unions numbers : List ℕ) (ls : List (List ℕ)) (tasks : ℕ) {held : ℕ} → EndRows (length row) ends counts unions tasks
+    → held ≡ keptSet row rest → mayRaiseSome row held ends counts unions numbers tasks ≡ false → Met (pointMost row rest ls) (length row) ends counts tasks numbers numbers
+met-as-is row rest ends counts unions numbers ls tasks {held} rows is e =
     record {
       long = refl;
-      each = λ j h. stays row ls (endsOf (length row) ends counts j) (getD numbers j 0) is (rows .joined j (omega (arith, rows .inside))) (some-not _ tasks j e h);
+      each = λ j h. stays row rest ls (endsOf (length row) ends counts j) (getD numbers j 0) is (rows .joined j (omega (arith, rows .inside))) (some-not _ tasks j e h);
       rest = λ j h. refl;
     }

@@ -1,37 +1,45 @@
--- Document 01, "Paths and cache", and document 02, Point 5: the sets of cache blocks useful in and replaced by tasks, and the most that they have
--- in common. Definitions only.
+-- Document 01, "Paths and cache", and document 02, Points 5 and 6: the sets of cache blocks useful in and replaced by tasks, and the most that they
+-- have in common at a point. Definitions only.
 use mathlib.Core.Path.{_≡_}
-use mathlib.Core.Bool.{Bool, false, _&&_, _||_, cond}
+use mathlib.Core.Bool.{Bool, false, not, _&&_, _||_}
 use mathlib.Core.List.{List, [], _∷_, map}
 use Prim.Native.Nat.{ℕ, zero, suc, _*_, _≤_, _<_, max}
 use lib.Dec.{ltb}
 use lib.ListN.{length, getD}
 use lib.Bits.{bitAnd}
 use lib.Count.{ones}
-use Rattle.cache.specs.Sets.{useful, used, replaces, bits, inSet}
+use Rattle.cache.specs.Sets.{useful, used, replaces, bits}
 use Rattle.model.specs.Lists.{best}
+use Rattle.rows.specs.Overlay.{overlay}
 use Rattle.rows.specs.Rows.{Width}
 use Rattle.gather.specs.Memory.{heldRows}
 
--- the used set of a row, and the useful set of a reaching and a live row
-abbrev pub usedSet : List ℕ → ℕ
-usedSet row = bits (length row) (used row)
-
+-- the useful set of a reaching and a live row
 abbrev pub usefulSet : List ℕ → List ℕ → ℕ
 usefulSet reaching live = bits (length reaching) (useful reaching live)
 
--- the useful sets of a reaching row with each of some live rows, and how many cache blocks each has
-abbrev pub usefulSets : List ℕ → List (List ℕ) → List ℕ
-usefulSets r ls = map (λ (l : List ℕ). usefulSet r l) ls
+-- the useful sets of a reaching row at a point with each of some live rows of the block, and how many cache blocks each has: `rest` holds the first
+-- references of what is left of the block
+abbrev pub usefulSets : List ℕ → List ℕ → List (List ℕ) → List ℕ
+usefulSets r rest ls = map (λ (l : List ℕ). usefulSet r (overlay l rest)) ls
 
-abbrev pub usefulSizes : List ℕ → List (List ℕ) → List ℕ
-usefulSizes r ls = map (λ (l : List ℕ). ones (usefulSet r l)) ls
+abbrev pub usefulSizes : List ℕ → List ℕ → List (List ℕ) → List ℕ
+usefulSizes r rest ls = map (λ (l : List ℕ). ones (usefulSet r (overlay l rest))) ls
 
--- these are the useful sets of the row with some live rows, and their sizes
-pub record UsefulSets (r us sizes : List ℕ) : Type 0 where
+-- the cache blocks of a reaching row that can be useful at the point: those where the rest holds nothing or the same memory block
+abbrev pub kept : List ℕ → List ℕ → ℕ → Bool
+kept r rest c = used r c && not (replaces rest r c)
+
+abbrev pub keptSet : List ℕ → List ℕ → ℕ
+keptSet r rest = bits (length r) (kept r rest)
+
+-- these are the useful sets of the row at a point with some live rows, and their sizes, and `held` are the cache blocks that can be useful there
+pub record UsefulSets (r : List ℕ) (held : ℕ) (us sizes : List ℕ) : Type 0 where
+  pub rest : List ℕ
   pub lives : List (List ℕ)
-  pub sets : us ≡ usefulSets r lives
-  pub sized : sizes ≡ usefulSizes r lives
+  pub kept-is : held ≡ keptSet r rest
+  pub sets : us ≡ usefulSets r rest lives
+  pub sized : sizes ≡ usefulSizes r rest lives
 
 -- the cache blocks of a reaching row r where the end row f "holds something there other than" what r holds, and those of each of some end rows
 abbrev pub replacedSet : List ℕ → List ℕ → ℕ
@@ -64,26 +72,14 @@ setsMost us vs = best (λ (u : ℕ). mostCommon u vs) us
 abbrev pub NoMoreThanAll : List ℕ → List ℕ → ℕ → Type 0
 NoMoreThanAll us vs all = (k : ℕ) → k < length us → mostCommon (getD us k 0) vs ≤ ones (bitAnd (getD us k 0) all)
 
--- the most cache blocks that are useful in one task and replaced by another, which ends with the rows fs: for a reaching row with each of the
--- live rows ls, for each reaching row of a block
-abbrev pub rowMost : List ℕ → List (List ℕ) → List (List ℕ) → ℕ
-rowMost r ls fs = best (λ (l : List ℕ). mostCommon (usefulSet r l) (replacedSets r fs)) ls
-
-abbrev pub blockMost : List (List ℕ) → List (List ℕ) → List (List ℕ) → ℕ
-blockMost rs ls fs = best (λ (r : List ℕ). rowMost r ls fs) rs
+-- the most cache blocks that are useful in one task at a point and replaced by another, which ends with the rows fs: for a reaching row with each of
+-- the live rows ls of the block
+abbrev pub pointMost : List ℕ → List ℕ → List (List ℕ) → List (List ℕ) → ℕ
+pointMost r rest ls fs = best (λ (l : List ℕ). mostCommon (usefulSet r (overlay l rest)) (replacedSets r fs)) ls
 
 -- the same for a reaching row r with the useful sets us
 abbrev pub usefulMost : List ℕ → List ℕ → List (List ℕ) → ℕ
 usefulMost r us fs = setsMost us (replacedSets r fs)
-
--- the rows of the blocks of a set: none of any other block
-abbrev pub within : ℕ → (ℕ → List (List ℕ)) → ℕ → List (List ℕ)
-within set rows b = cond (inSet set b) (rows b) []
-
--- the same most for `left` blocks from b on, given the reaching and the live rows of each block
-abbrev pub taskMost : (ℕ → List (List ℕ)) → (ℕ → List (List ℕ)) → ℕ → ℕ → List (List ℕ) → ℕ
-taskMost rs ls zero b fs = 0
-taskMost rs ls (suc left) b fs = max (blockMost (rs b) (ls b) fs) (taskMost rs ls left (suc b) fs)
 
 -- the end rows of task j in one list for all tasks: they stand from 32 w j on, as many as its count
 abbrev pub endsOf : ℕ → List ℕ → List ℕ → ℕ → List (List ℕ)
@@ -99,7 +95,7 @@ pub record EndRows (w : ℕ) (ends counts unions : List ℕ) (tasks : ℕ) : Typ
   pub joined : (j : ℕ) → j < 8 → getD unions j 0 ≡ bits w (someUses (endsOf w ends counts j))
   pub inside : tasks ≤ 8
 
--- whether a row r, with the used set `held`, has more cache blocks than the number says among those that the end rows fs use, whose union is
+-- whether a row r, of which `held` can be useful, has more of these cache blocks than the number says among those that the end rows fs use, whose union is
 -- `joined`, and among those where they replace what r holds: else it does not raise the number
 abbrev pub mayRaise : List ℕ → ℕ → ℕ → ℕ → List (List ℕ) → Bool
 mayRaise r held joined number fs = ltb number (ones (bitAnd held joined)) && ltb number (ones (bitAnd held (bits (length r) (someReplaces fs r))))

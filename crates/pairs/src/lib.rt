@@ -1,4 +1,4 @@
-// The numbers of one task against all tasks, from gathered rows.
+// The numbers of one task against all tasks at one point, from gathered rows.
 pub mod numbers;
 pub mod replaced;
 pub mod useful;

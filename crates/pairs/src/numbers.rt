@@ -1,4 +1,4 @@
-// The numbers of a task: for each task the most cache blocks that are useful in the one and replaced by the other.
+// The numbers of a task at one point: for each task the most cache blocks that are useful in the one and replaced by the other.
 ghost use mathlib.Core.Path.{_≡_};
 ghost use mathlib.Core.List.{map};
 ghost use Prim.Native.Nat.{_*_, _≤_, max};
@@ -7,12 +7,11 @@ ghost use lib.Count.{ones};
 ghost use lib.ListN.{length};
 ghost use Rattle.cache.specs.Sets.{bits};
 ghost use Rattle.rows.specs.Rows.{Width, rowsOf};
-ghost use Rattle.gather.specs.Memory.{Memory, heldRows};
-ghost use Rattle.pairs.specs.Pairs.{usedSet, someUses, mostCommon, setsMost, NoMoreThanAll, UsefulSets, usefulMost, rowMost, blockMost, within, taskMost, EndRows, mayRaise, mayRaiseSome, Met};
+ghost use Rattle.pairs.specs.Pairs.{someUses, mostCommon, setsMost, NoMoreThanAll, UsefulSets, usefulMost, pointMost, EndRows, mayRaise, mayRaiseSome, Met};
 use crate::replaced::replaced_sets;
+use crate::useful::kept;
 use crate::useful::useful_sets;
 use cache::sets::common;
-use cache::sets::used;
 
 // The most cache blocks that the set has in common with one of the sets.
 pub fn most_common(set: u32, sets: &[u32]) -> u32
@@ -56,8 +55,8 @@ fn raised_by_sets(number: u16, useful: &[u32], sizes: &[u32], sets: &[u32], all:
     most
 }
 
-// The number, raised to the most for a reaching row, its useful sets, of these sizes, and the first `count` end rows of one task; `held` is the used
-// set of the row, and `joined` the union of the used sets of the end rows. The useful sets are not looked at where these tell that the number stays.
+// The number, raised to the most for a reaching row, its useful sets, of these sizes, and the first `count` end rows of one task; `held` are the cache
+// blocks of the row that can be useful, and `joined` the union of the used sets of the end rows. The useful sets are not looked at where these tell that the number stays.
 fn raised_by_row(
     number: u16,
     row: &[u16],
@@ -68,7 +67,7 @@ fn raised_by_row(
     count: usize,
     joined: u32,
 ) -> u16
-    requires { ⌜ Width (length (now row)) × (held ≡ usedSet (now row)) × UsefulSets (now row) (now useful) (now sizes)
+    requires { ⌜ Width (length (now row)) × UsefulSets (now row) held (now useful) (now sizes)
         × (length (now ends) ≡ 32 * length (now row)) × (count ≤ 32)
         × (joined ≡ bits (length (now row)) (someUses (rowsOf (length (now row)) count (now ends)))) ⌝ }
     ensures { λ r. ⌜ r ≡ max number (usefulMost (now (row .entry)) (now (useful .entry))
@@ -85,7 +84,7 @@ fn raised_by_row(
     raised_by_sets(number, useful, sizes, &sets[0..count], all)
 }
 
-// A reaching row, by its used set and its useful sets, of these sizes, is met by the end rows of each task.
+// A reaching row, by its useful sets, of these sizes, is met by the end rows of each task; `held` are the cache blocks that can be useful.
 fn meet_sets(
     row: &[u16],
     held: u32,
@@ -97,8 +96,8 @@ fn meet_sets(
     tasks: usize,
     numbers: &mut [u16],
 )
-    requires { ⌜ EndRows (length (now row)) (now ends) (now counts) (now unions) tasks × (held ≡ usedSet (now row))
-        × UsefulSets (now row) (now useful) (now sizes) × (length (now numbers) ≡ 8) ⌝ }
+    requires { ⌜ EndRows (length (now row)) (now ends) (now counts) (now unions) tasks × UsefulSets (now row) held (now useful) (now sizes)
+        × (length (now numbers) ≡ 8) ⌝ }
     ensures { λ _. ⌜ Met (usefulMost (now (row .entry)) (now (useful .entry)))
         (length (now (row .entry))) (now (ends .entry)) (now (counts .entry)) tasks (now (numbers .entry)) (now (numbers .exit)) ⌝ }
 {
@@ -119,7 +118,7 @@ fn meet_sets(
 }
 
 // Whether a reaching row may raise the number against the first `count` end rows of one task: else it has no more cache blocks than `number` among
-// those that the end rows use, whose union is `joined`, or among those where they replace what it holds. `held` is its used set.
+// those that the end rows use, whose union is `joined`, or among those where they replace what it holds. `held` are those of its cache blocks that can be useful.
 fn may_raise(number: u16, row: &[u16], held: u32, ends: &[u16], count: usize, joined: u32) -> bool
     requires { ⌜ Width (length (now row)) × (length (now ends) ≡ 32 * length (now row)) × (count ≤ 32) ⌝ }
     ensures { λ r. ⌜ r ≡ mayRaise (now (row .entry)) held joined number (rowsOf (length (now (row .entry))) count (now (ends .entry))) ⌝ }
@@ -163,10 +162,11 @@ fn may_raise_some(
     false
 }
 
-// A reaching row and its first `lived` live rows are met by the end rows of each task. The useful sets are made once for all tasks, and only where a
-// number may be raised.
-fn meet_row(
+// A reaching row and the first `lived` live rows of the block, overlaid by the rest, are met by the end rows of each task. The useful sets are made once
+// for all tasks, and only where a number may be raised.
+pub fn meet_point(
     row: &[u16],
+    rest: &[u16],
     live: &[u16],
     lived: usize,
     ends: &[u16],
@@ -175,16 +175,16 @@ fn meet_row(
     tasks: usize,
     numbers: &mut [u16],
 )
-    requires { ⌜ EndRows (length (now row)) (now ends) (now counts) (now unions) tasks × (length (now live) ≡ 32 * length (now row)) × (lived ≤ 32)
-        × (length (now numbers) ≡ 8) ⌝ }
-    ensures { λ _. ⌜ Met (rowMost (now (row .entry)) (rowsOf (length (now (row .entry))) lived (now (live .entry))))
+    requires { ⌜ EndRows (length (now row)) (now ends) (now counts) (now unions) tasks × (length (now rest) ≡ length (now row))
+        × (length (now live) ≡ 32 * length (now row)) × (lived ≤ 32) × (length (now numbers) ≡ 8) ⌝ }
+    ensures { λ _. ⌜ Met (pointMost (now (row .entry)) (now (rest .entry)) (rowsOf (length (now (row .entry))) lived (now (live .entry))))
         (length (now (row .entry))) (now (ends .entry)) (now (counts .entry)) tasks (now (numbers .entry)) (now (numbers .exit)) ⌝ }
 {
-    let held = used(row);
+    let held = kept(row, rest);
     if may_raise_some(row, held, ends, counts, unions, tasks, numbers) {
         let mut sets = [0u32; 32];
         let mut sizes = [0u32; 32];
-        useful_sets(row, live, lived, &mut sets, &mut sizes);
+        useful_sets(row, rest, live, lived, &mut sets, &mut sizes);
         meet_sets(
             row,
             held,
@@ -196,80 +196,5 @@ fn meet_row(
             tasks,
             numbers,
         );
-    }
-}
-
-// The rows of a block are met: its first `reached` reaching rows with its first `lived` live rows, of w numbers each.
-fn meet_block(
-    w: usize,
-    reaching: &[u16],
-    reached: usize,
-    live: &[u16],
-    lived: usize,
-    ends: &[u16],
-    counts: &[usize],
-    unions: &[u32],
-    tasks: usize,
-    numbers: &mut [u16],
-)
-    requires { ⌜ (length (now reaching) ≡ 32 * w) × (reached ≤ 32) × (length (now live) ≡ 32 * w) × (lived ≤ 32)
-        × EndRows w (now ends) (now counts) (now unions) tasks × (length (now numbers) ≡ 8) ⌝ }
-    ensures { λ _. ⌜ Met (blockMost (rowsOf w reached (now (reaching .entry))) (rowsOf w lived (now (live .entry))))
-        w (now (ends .entry)) (now (counts .entry)) tasks (now (numbers .entry)) (now (numbers .exit)) ⌝ }
-{
-    for k in 0..reached {
-        let at = w * k;
-        meet_row(
-            &reaching[at..at + w],
-            live,
-            lived,
-            ends,
-            counts,
-            unions,
-            tasks,
-            numbers,
-        );
-    }
-}
-
-// The rows of the unmasked blocks of a task are met by the end rows of each task; `reached` and `lived` tell how many rows, of w numbers each, a
-// block has, and `counts` how many end rows a task has.
-pub fn meet_task(
-    w: usize,
-    blocks: usize,
-    unmasked: u32,
-    reaching: &[u16],
-    reached: &[usize],
-    live: &[u16],
-    lived: &[usize],
-    ends: &[u16],
-    counts: &[usize],
-    unions: &[u32],
-    tasks: usize,
-    numbers: &mut [u16],
-)
-    requires { ⌜ (blocks ≤ 24) × Memory w (now reaching) (now reached) × Memory w (now live) (now lived)
-        × EndRows w (now ends) (now counts) (now unions) tasks × (length (now numbers) ≡ 8) ⌝ }
-    ensures { λ _. ⌜ Met (taskMost (within unmasked (heldRows w (now (reaching .entry)) (now (reached .entry))))
-        (heldRows w (now (live .entry)) (now (lived .entry))) blocks 0)
-        w (now (ends .entry)) (now (counts .entry)) tasks (now (numbers .entry)) (now (numbers .exit)) ⌝ }
-{
-    let part = 32 * w;
-    for b in 0..blocks {
-        if unmasked & (1 << b) != 0 {
-            let at = part * b;
-            meet_block(
-                w,
-                &reaching[at..at + part],
-                reached[b],
-                &live[at..at + part],
-                lived[b],
-                ends,
-                counts,
-                unions,
-                tasks,
-                numbers,
-            );
-        }
     }
 }

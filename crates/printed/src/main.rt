@@ -2,12 +2,14 @@
 ghost use Prim.Native.Nat.{_<_};
 use example_files::APART;
 use example_files::EIGHT;
+use example_files::ENTERED;
 use example_files::MASKED;
 use example_files::ONE;
 use example_files::SHARED_BOTH;
 use example_files::SHARED_GAIN;
 use example_files::SHARED_SAME;
 use example_files::SIX_FORKS_OF_TASK_1;
+use example_files::TWICE;
 use example_files::WIDE;
 use example_files::with_byte;
 use libc::STDOUT_FILENO;
@@ -66,9 +68,16 @@ fn show_shared() {
     show(b"# a loop over the shared memory block\n", &SHARED_SAME);
 }
 
+// Files where it matters that a preemption may follow every single reference, and that none comes before the first.
+fn show_points() {
+    show(b"# one memory block read twice in a block\n", &TWICE);
+    show(b"# a masked block, then the same reference\n", &ENTERED);
+}
+
 fn main() {
     show_refused();
     show_accepted();
     show_masked();
     show_shared();
+    show_points();
 }

@@ -1,11 +1,12 @@
 -- The answers of Replay in the code's words.
 -- The idea: each check passed leaves the checks that follow.
 use mathlib.Core.Path.{_≡_, sym, ap, _∙_}
-use mathlib.Core.Bool.{Bool, true, false}
+use mathlib.Core.Bool.{Bool, true, false, _&&_}
 use mathlib.Core.List.{List}
 use Prim.Native.Nat.{ℕ}
 use borrow.Author.Tests.{not-false}
 use Rattle.cache.specs.declared.blocks.CacheShape.{CacheShape}
+use Rattle.model.proofs.Membership.{both-left, both-right}
 use Rattle.project.specs.declared.answers.Check.{Check}
 use Rattle.project.specs.declared.answers.Check.the-variants.{Passed}
 use Rattle.project.specs.declared.answers.Check.the-variants.{Refused as Failed}
@@ -18,7 +19,7 @@ use Rattle.project.specs.Tasks.{tasksOf, fileShape}
 use Rattle.project.proofs.Checklists.{verdict-append}
 use Rattle.project.proofs.Accepted.{unless-passed, accepted-passed}
 use Rattle.reader.proofs.TaskBodies.{refused-check}
-use Rattle.sheet.specs.Parsed.{parse, keptSheet, completeAll, unmaskedAll}
+use Rattle.sheet.specs.Parsed.{parse, keptSheet, completeAll, doneAll, unmaskedAll}
 use Rattle.replay.specs.declared.Replaying.{Replaying}
 use Rattle.replay.specs.declared.Replaying.the-variants.{Refused}
 use Rattle.replay.specs.Replay.{runIn, test12, test13, test16, sheetChecks, sheetCheck, replayCheck, countedIn, pickReplaying, replayingOf, Passed12, Passed13}
@@ -35,7 +36,8 @@ answer-by s sheet r e = ap (λ (c : Check). pickReplaying c (countedIn s (runIn 
 pub call-refused : (s sheet : List ℕ) {c a : ℕ} → readingOf s ≡ Unread c a → Refused c a ≡ replayingOf s sheet
 call-refused s sheet {c} {a} e = sym (answer-by s sheet (Failed c a) (replay-parts s sheet ∙ rw (refused-check s e)))
 
--- ---- the checks on the sheet: b says whether it keeps the rules, d whether all paths are complete, m whether it avoids masked blocks
+-- ---- the checks on the sheet: b says whether it keeps the rules, d whether all paths are complete and all numbers of references done are right, m
+-- whether it avoids masked blocks
 
 module _ (s sheet : List ℕ) {t : ℕ} {b : Bool} (file : accepted (readingOf s) ≡ true) (et : t ≡ taskCount s) (eb : b ≡ keptSheet (parse t sheet)) where
   kept : keptSheet (parse (taskCount s) sheet) ≡ b
@@ -47,12 +49,16 @@ module _ (s sheet : List ℕ) {t : ℕ} {b : Bool} (file : accepted (readingOf s
   pub passed-12 : b ≡ true → Passed12 s sheet
   passed-12 q = record { file = file; kept = kept ∙ q }
 
-  module _ {d : Bool} (q : b ≡ true) (ed : d ≡ completeAll (tasksOf s) (runIn s sheet)) where
+  module _ {d : Bool} (q : b ≡ true) (ed : d ≡ completeAll (tasksOf s) (runIn s sheet) && doneAll (tasksOf s) (runIn s sheet)) where
     pub sheet-13 : d ≡ false → Failed 13 255 ≡ sheetCheck s sheet
     sheet-13 g = sym (rw (kept, q, ← ed, g))
 
     pub passed-13 : d ≡ true → Passed13 s sheet
-    passed-13 g = record { rules = passed-12 q; complete = sym ed ∙ g }
+    passed-13 g = record {
+      rules = passed-12 q;
+      complete = both-left (completeAll (tasksOf s) (runIn s sheet)) _ (sym ed ∙ g);
+      done = both-right (completeAll (tasksOf s) (runIn s sheet)) _ (sym ed ∙ g);
+    }
 
     module _ {m : Bool} (g : d ≡ true) (em : m ≡ unmaskedAll (tasksOf s) (runIn s sheet)) where
       pub sheet-16 : m ≡ false → Failed 16 255 ≡ sheetCheck s sheet
@@ -65,6 +71,7 @@ module _ (s sheet : List ℕ) {t : ℕ} {b : Bool} (file : accepted (readingOf s
 pub record SheetPassed (s sheet : List ℕ) : Type 0 where
   pub kept : keptSheet (parse (taskCount s) sheet) ≡ true
   pub complete : completeAll (tasksOf s) (runIn s sheet) ≡ true
+  pub done : doneAll (tasksOf s) (runIn s sheet) ≡ true
   pub unmasked : unmaskedAll (tasksOf s) (runIn s sheet) ≡ true
 
 pub passed-sheet : (s sheet : List ℕ) → sheetCheck s sheet ≡ Passed → SheetPassed s sheet
@@ -72,9 +79,11 @@ passed-sheet s sheet e =
     let (e12, r) = unless-passed 12 noTask (test12 s sheet) _ e in
     let (e13, q) = unless-passed 13 noTask (test13 s sheet) _ r in
     let e16 = unless-passed 16 noTask (test16 s sheet) Passed q .0 in
+    let right = not-false (completeAll (tasksOf s) (runIn s sheet) && doneAll (tasksOf s) (runIn s sheet)) e13 in
     record {
       kept = not-false (keptSheet (parse (taskCount s) sheet)) e12;
-      complete = not-false (completeAll (tasksOf s) (runIn s sheet)) e13;
+      complete = both-left (completeAll (tasksOf s) (runIn s sheet)) _ right;
+      done = both-right (completeAll (tasksOf s) (runIn s sheet)) _ right;
       unmasked = not-false (unmaskedAll (tasksOf s) (runIn s sheet)) e16;
     }
 
@@ -95,7 +104,7 @@ module _ (s sheet : List ℕ) {n u : ℕ} (e : readingOf s ≡ Accepted n u) whe
 
   module _ (q : sheetCheck s sheet ≡ Passed) where
     pub ready : Passed13 s sheet
-    ready = let p = passed-sheet s sheet q in record { rules = record { file = ap accepted e; kept = p .kept }; complete = p .complete }
+    ready = let p = passed-sheet s sheet q in record { rules = record { file = ap accepted e; kept = p .kept }; complete = p .complete; done = p .done }
 
     pub call-counted : {x : Replaying} → x ≡ countedIn s (runIn s sheet) → x ≡ replayingOf s sheet
     call-counted ex = ex ∙ sym (answer-by s sheet Passed (checks ∙ q))

@@ -5,107 +5,116 @@ use mathlib.Core.Bool.{true}
 use mathlib.Core.List.{List, [], _∷_}
 use Prim.Native.Nat.{ℕ, suc, _+_, _*_, _-_, _≤_, _<_}
 use native.Mathlib.Omega.{arith}
-use lib.Dec.{eqb, ltb}
-use lib.ListN.{length, getD, take, drop, length-take, length-drop}
-use lib.Seq.{take-all, drop-drop}
-use borrow.Author.Tests.{ltb-true}
+use lib.ListN.{length, getD, take, drop, length-append, length-drop}
 use Rattle.cache.specs.References.{All}
-use Rattle.cache.specs.Cache.{Cache, emptyRow}
+use Rattle.cache.specs.Cache.{Cache, direct}
 use Rattle.cache.specs.Shape.{shaped}
 use Rattle.cache.specs.declared.blocks.CacheShape.{CacheShape}
-use Rattle.model.specs.Lists.{mem, Each}
-use Rattle.model.specs.Tasks.{Block, Task, block, references, task}
-use Rattle.model.specs.Runs.{Preemption, countAtEnd, lostAtEnd}
-use Rattle.model.proofs.Events.{Event, Preempt}
+use Rattle.model.specs.Lists.{Each}
+use Rattle.model.specs.Tasks.{Task, Done, references, task}
+use Rattle.model.specs.Runs.{Preemption, NotBefore, countAtEnd, lostAtEnd}
+use Rattle.model.proofs.Events.{Event}
+use Rattle.model.proofs.RunEvents.{allOf}
 use Rattle.model.proofs.Membership.{both-left, both-right}
-use Rattle.model.proofs.Paths.{successor-below}
-use Rattle.body.specs.Layout.{InBounds}
-use Rattle.body.specs.Decode.{decode, taskOf}
-use Rattle.body.specs.Walk.{startsOf}
-use Rattle.body.proofs.BlockParts.{all-take, all-drop}
 use Rattle.body.proofs.WalksParts.{part-is}
-use Rattle.project.specs.File.{cacheBlocks, taskCount, bodyOf}
+use Rattle.project.specs.File.{cacheBlocks, taskCount}
 use Rattle.project.specs.Tasks.{tasksOf, fileShape}
-use Rattle.reader.proofs.TaskBodies.{TaskBody, task-body, task-bounds, body-kept, body-task}
+use Rattle.reader.proofs.TaskBodies.{TaskBody, task-body}
 use Rattle.sheet.specs.Sheet.{SheetRun, preemptionNumbers, longestPath, PreemptionInRules, InRules}
-use Rattle.sheet.specs.Parsed.{leadsToEnd, completePath, eachPasses, completeBy}
-use Rattle.sheet.proofs.Places.{SheetPlaces, path-part, PreemptionPlaces, preemption-places, none-left}
-use Rattle.runs.specs.Running.{rowCount, RunsIn, PathIn, Both, both, bothFirst, CountsFit, bothPath, preemptedBoth}
-use Rattle.runs.proofs.Segments.{Rises, rises-all, segments, segments-all}
-use Rattle.runs.proofs.BothEvents.{bothEvents, events-path, end-undisturbed, end-disturbed, end-lost}
-use Rattle.runs.proofs.BothLaws.{counts-less, counts-after-path}
+use Rattle.sheet.specs.Parsed.{completePath, eachPasses, completeBy}
+use Rattle.sheet.proofs.Places.{SheetPlaces, PreemptionPlaces, preemption-places, none-left}
+use Rattle.sheet.proofs.CompletePaths.{all-done}
+use Rattle.runs.specs.Running.{Both, bothFirst, CountsFit, ownBoth, preemptedBoth}
+use Rattle.runs.specs.Parts.{referencesAt, partOf, lastPoint, PartIn}
+use Rattle.runs.specs.declared.part.PathPoint.{PathPoint}
+use Rattle.runs.proofs.PathCounts.{references-few}
+use Rattle.runs.proofs.PartLaws.{between-join, between-all}
+use Rattle.runs.proofs.PartTurns.{before-last}
+use Rattle.runs.proofs.Segments.{Rises, rises-all, done-le, segments, InPath, segments-all}
+use Rattle.runs.proofs.BothEvents.{bothEvents, events-refs, end-undisturbed, end-disturbed, end-lost}
+use Rattle.runs.proofs.BothLaws.{counts-less, counts-after}
 use Rattle.runs.proofs.Widths.{count-width, lost-width}
 use Rattle.replay.specs.declared.Replaying.{Replaying}
 use Rattle.replay.specs.declared.Replaying.the-variants.{Counted}
 use Rattle.replay.specs.Replay.{runIn, countedIn, Passed13}
-use Rattle.replay.proofs.SheetLaws.{SheetFacts, sheet-facts}
+use Rattle.replay.proofs.SheetLaws.{SheetFacts}
+use Rattle.replay.proofs.OwnPath.{complete-blocks, ownTask, own-facts, own-bounds}
 
--- ---- the blocks of a complete path are blocks of the task
+-- ---- points
 
-leads-blocks : (t : Task) (b : ℕ) (p : List ℕ) → leadsToEnd t b p ≡ true → All (λ (c : ℕ). c < length t) (b ∷ p)
-leads-blocks t b [] e = (ltb-true b (length t) (both-left (ltb b (length t)) _ e), tt)
-leads-blocks t b (c ∷ p) e = (
-  successor-below t b c (both-left (mem eqb c (block t b .successors)) _ e),
-  leads-blocks t c p (both-right (mem eqb c (block t b .successors)) _ e),
-)
+-- that of a preemption, and the first of a path
+abbrev pub pointOf : Preemption → PathPoint
+pointOf x = record { position = x .position; done = x .done }
 
-pub complete-blocks : (t : Task) (path : List ℕ) → completePath t path ≡ true → All (λ (c : ℕ). c < length t) path
-complete-blocks t [] e = tt
-complete-blocks t (b ∷ p) e = leads-blocks t b p (both-right (eqb b 0) _ e)
+abbrev pub firstPoint : PathPoint
+firstPoint = record { position = 0; done = 0 }
 
--- ---- what is left of the run at the position i, where `at` is the next preemption
+-- ---- what is left of the run where the point `from` is reached and `at` is the next preemption
 
 -- both runs to the end, by their segments
 abbrev whole : List ℕ → List ℕ → CacheShape → Both
-whole s sheet shape =
-    bothEvents (shaped 32 shape) (bothFirst (shaped 32 shape)) (segments (tasksOf s) (task (tasksOf s) (runIn s sheet .p)) (runIn s sheet .preemptions) 0 (runIn s sheet .path))
+whole s sheet shape = bothEvents (shaped 32 shape) (bothFirst (shaped 32 shape)) (segments (tasksOf s) (ownTask s sheet) (runIn s sheet .path) (runIn s sheet .preemptions) 0 0)
 
--- both runs from the position i on, with the preemptions xs
-abbrev on-from : List ℕ → List ℕ → CacheShape → Both → ℕ → List Preemption → Both
-on-from s sheet shape run i xs = bothEvents (shaped 32 shape) run (segments (tasksOf s) (task (tasksOf s) (runIn s sheet .p)) xs i (drop i (runIn s sheet .path)))
+-- both runs from a point on, with the preemptions xs
+abbrev on-from : List ℕ → List ℕ → CacheShape → Both → PathPoint → List Preemption → Both
+on-from s sheet shape run from xs = bothEvents (shaped 32 shape) run (segments (tasksOf s) (ownTask s sheet) (runIn s sheet .path) xs (from .position) (from .done))
 
-pub record RunLeft (s sheet : List ℕ) (shape : CacheShape) (run : Both) (i at : ℕ) : Type 0 where
+-- the part of the own path between two points
+abbrev ownPart : List ℕ → List ℕ → PathPoint → PathPoint → List ℕ
+ownPart s sheet from to = partOf (ownTask s sheet) (runIn s sheet .path) from to
+
+-- the last point of the own path
+abbrev ownLast : List ℕ → List ℕ → PathPoint
+ownLast s sheet = lastPoint (ownTask s sheet) (runIn s sheet .path)
+
+pub record RunLeft (s sheet : List ℕ) (shape : CacheShape) (run : Both) (from : PathPoint) (at : ℕ) : Type 0 where
   pub left : List Preemption
   pub numbers-at : drop at sheet ≡ preemptionNumbers left
   pub rules : Each (PreemptionInRules (taskCount s) (runIn s sheet .p) (length (runIn s sheet .path))) left
   pub complete : eachPasses (completeBy (tasksOf s)) left ≡ true
-  pub rises : Rises i left
-  pub in-path : i ≤ length (runIn s sheet .path)
-  pub few : CountsFit run (16 * (longestPath - i))
-  pub same : on-from s sheet shape run i left ≡ whole s sheet shape
+  pub points : Each (InPath (tasksOf s) (ownTask s sheet) (runIn s sheet .path)) left
+  pub rises : Rises (from .position) (from .done) left
+  pub in-path : from .position < length (runIn s sheet .path)
+  pub done-few : from .done ≤ length (referencesAt (ownTask s sheet) (runIn s sheet .path) (from .position))
+  pub few : CountsFit run (length (ownPart s sheet from (ownLast s sheet)))
+  pub same : on-from s sheet shape run from left ≡ whole s sheet shape
 
 -- the next preemption
-pub record RunNext (s sheet : List ℕ) (shape : CacheShape) (run : Both) (i at : ℕ) : Type 0 where
+pub record RunNext (s sheet : List ℕ) (shape : CacheShape) (run : Both) (from : PathPoint) (at : ℕ) : Type 0 where
   pub first : Preemption
   pub rest : List Preemption
   pub places : PreemptionPlaces sheet at first rest
   pub rule : PreemptionInRules (taskCount s) (runIn s sheet .p) (length (runIn s sheet .path)) first
-  pub low : i ≤ suc (first .point)
+  pub point : InPath (tasksOf s) (ownTask s sheet) (runIn s sheet .path) first
+  pub order : NotBefore (from .position) (from .done) (first .position) (first .done)
   pub here : completePath (task (tasksOf s) (first .by)) (first .path) ≡ true
   pub rules : Each (PreemptionInRules (taskCount s) (runIn s sheet .p) (length (runIn s sheet .path))) rest
   pub complete : eachPasses (completeBy (tasksOf s)) rest ≡ true
-  pub rises : Rises (suc (first .point)) rest
-  pub same : on-from s sheet shape run i (first ∷ rest) ≡ whole s sheet shape
+  pub points : Each (InPath (tasksOf s) (ownTask s sheet) (runIn s sheet .path)) rest
+  pub rises : Rises (first .position) (first .done) rest
+  pub same : on-from s sheet shape run from (first ∷ rest) ≡ whole s sheet shape
 
--- the part of the path from the position i up to j, and the path of the preemption at `at`, of m blocks
-abbrev pub ownPart : List ℕ → ℕ → ℕ → List ℕ
-ownPart sheet i j = take (2 + j - (2 + i)) (drop (2 + i) sheet)
-
+-- the path of the preemption at `at`, of m blocks
 abbrev pub byPart : List ℕ → ℕ → ℕ → List ℕ
-byPart sheet at m = take (at + 3 + m - (at + 3)) (drop (at + 3) sheet)
+byPart sheet at m = take (at + 4 + m - (at + 4)) (drop (at + 4) sheet)
 
--- the own blocks from the position i up to j can be run
-pub record OwnRun (s sheet : List ℕ) (run : Both) (i j : ℕ) : Type 0 where
-  pub low : i ≤ j
-  pub short : j ≤ longestPath
-  pub within : 2 + j ≤ length sheet
-  pub below : All (λ (b : ℕ). b < length (task (tasksOf s) (runIn s sheet .p))) (ownPart sheet i j)
-  pub few : CountsFit run (16 * length (ownPart sheet i j))
+-- the part of a path of the task t between two points can be run
+pub record OwnRun (t : Task) (path : List ℕ) (run : Both) (from to : PathPoint) : Type 0 where
+  pub part : PartIn t path from to
+  pub few : CountsFit run (length (partOf t path from to))
+
+-- the same, of an equal task, path and point
+pub own-moved : {t u : Task} {path way : List ℕ} (run : Both) (from : PathPoint) {to end : PathPoint} → t ≡ u → path ≡ way → to ≡ end → OwnRun u way run from end → OwnRun t path run from to
+own-moved run from et ep eq h = rw (et, ep, eq) h
+
+pub ran-moved : (k : Cache) {t u : Task} {path way : List ℕ} (run : Both) (from : PathPoint) {to end : PathPoint} {own : Both} → t ≡ u → path ≡ way → to ≡ end
+    → own ≡ ownBoth k run (partOf t path from to) → own ≡ ownBoth k run (partOf u way from end)
+ran-moved k run from et ep eq e = rw (et, ep, eq) at e
 
 -- the path of the preemption at `at`, of m blocks of the task y, can be run
 pub record ByRun (s sheet : List ℕ) (at y m : ℕ) : Type 0 where
   pub there : y < taskCount s
-  pub within : at + 3 + m ≤ length sheet
+  pub within : at + 4 + m ≤ length sheet
   pub below : All (λ (b : ℕ). b < length (task (tasksOf s) y)) (byPart sheet at m)
   pub few : length (byPart sheet at m) ≤ longestPath
 
@@ -120,51 +129,22 @@ module _ (s sheet : List ℕ) (shape : CacheShape) (h : Passed13 s sheet) (block
   r = runIn s sheet
 
   abbrev tp : Task
-  tp = task ts (r .p)
+  tp = ownTask s sheet
 
-  pub facts : SheetFacts s sheet
-  facts = sheet-facts s sheet (h .rules)
+  facts : SheetFacts s sheet
+  facts = own-facts s sheet (h .rules)
 
-  own-complete : completePath tp (r .path) ≡ true
-  own-complete = both-left (completePath tp (r .path)) (eachPasses (completeBy ts) (r .preemptions)) (h .complete)
+  some : 0 < length (r .path)
+  some = omega (arith, facts .rules .bounds .some)
 
-  pub own-number : {p : ℕ} → p ≡ getD sheet 0 0 → p < taskCount s
-  own-number e = omega (arith, facts .places .task-at, facts .rules .there)
-
-  part-long : (i j : ℕ) → length (ownPart sheet i j) ≤ j - i
-  part-long i j = omega (arith, length-take (2 + j - (2 + i)) (drop (2 + i) sheet))
-
-  bounds : InBounds tp
-  bounds = task-bounds s (r .p) (h .rules .file) (facts .rules .there)
-
-  own-blocks : All (λ (b : ℕ). b < length tp) (r .path)
-  own-blocks = complete-blocks tp (r .path) own-complete
-
-  -- the body of the own task, where p is its number
-  module _ {p : ℕ} {body : List ℕ} (ep : p ≡ getD sheet 0 0) (eb : body ≡ bodyOf s p) where
-    pub own-task : taskOf (decode body) ≡ tp
-    own-task = body-task s p (task-body s (h .rules .file) p (own-number ep)) eb ∙ ap (task ts) (ep ∙ facts .places .task-at)
-
-    pub own-in : {starts part : List ℕ} → starts ≡ startsOf (decode body) → All (λ (b : ℕ). b < length tp) part → PathIn body starts part
-    own-in {part = part} es below = record {
-      runs = record {
-        kept = body-kept s p (task-body s (h .rules .file) p (own-number ep)) eb;
-        below = subst (λ (t : Task). All (λ (b : ℕ). b < length t) part) (sym own-task) below;
-      };
-      begin = es;
-    }
-
-    pub own-ran : (run : Both) (part : List ℕ) {own : Both} → own ≡ bothPath k (taskOf (decode body)) run part → own ≡ bothPath k tp run part
-    own-ran run part e = e ∙ ap (λ (t : Task). bothPath k t run part) own-task
-
-  -- a part of the path has blocks of the task
-  part-below : (i j : ℕ) {part : List ℕ} → part ≡ take j (drop i (r .path)) → All (λ (b : ℕ). b < length tp) part
-  part-below i j e = rw e (all-take (λ (b : ℕ). b < length tp) j (drop i (r .path)) (all-drop (λ (b : ℕ). b < length tp) i (r .path) own-blocks))
-
-  -- the points of the list lie in the path
-  each-in : (xs : List Preemption) → Each (PreemptionInRules (taskCount s) (r .p) (length (r .path))) xs → Each (λ (x : Preemption). x .point < length (r .path)) xs
-  each-in [] e = tt
-  each-in (x ∷ xs) e = (e .0 .inPath, each-in xs (e .1))
+  -- the points of all preemptions lie in the path
+  all-points : Each (InPath ts tp (r .path)) (r .preemptions)
+  all-points = go (r .preemptions) (facts .rules .each) (all-done ts r .0 (h .done))
+    where
+      go : (xs : List Preemption) → Each (PreemptionInRules (taskCount s) (r .p) (length (r .path))) xs → Each (λ (x : Preemption). Done (referencesAt tp (r .path) (x .position)) (x .done)) xs
+          → Each (InPath ts tp (r .path)) xs
+      go [] e d = tt
+      go (x ∷ xs) e d = ((e .0 .inPath, d .0), go xs (e .1) (d .1))
 
   blocks-low : 0 < cacheBlocks s
   blocks-low = task-body s (h .rules .file) (r .p) (facts .rules .there) .low
@@ -175,7 +155,7 @@ module _ (s sheet : List ℕ) (shape : CacheShape) (h : Passed13 s sheet) (block
   -- both runs at the end have the counts of the definitions, in rows of as many places as cache blocks
   whole-counts : Counted (whole s sheet shape .undisturbed .count) (whole s sheet shape .disturbed .count) (whole s sheet shape .lost) ≡ countedIn s r
   whole-counts =
-      ap (λ (es : List Event). counted (bothEvents k (bothFirst k) es)) (segments-all ts tp (r .preemptions) (r .path) (facts .rules .rising) (each-in (r .preemptions) (facts .rules .each)))
+      ap (λ (es : List Event). counted (bothEvents k (bothFirst k) es)) (segments-all ts tp (r .path) (r .preemptions) some (facts .rules .rising) all-points)
       ∙ three (end-undisturbed k ts tp (r .path) (r .preemptions)) (end-disturbed k ts tp (r .path) (r .preemptions)) (end-lost k ts tp (r .path) (r .preemptions))
       ∙ ap (λ (x : CacheShape). Counted (countAtEnd (shaped 32 x) ts tp (r .path) []) (countAtEnd (shaped 32 x) ts tp (r .path) (r .preemptions)) (lostAtEnd (shaped 32 x) ts tp (r .path) (r .preemptions))) blocks
       ∙ three (count-width (cacheBlocks s) 32 blocks-low blocks-high ts tp (r .path) []) (count-width (cacheBlocks s) 32 blocks-low blocks-high ts tp (r .path) (r .preemptions))
@@ -187,64 +167,77 @@ module _ (s sheet : List ℕ) (shape : CacheShape) (h : Passed13 s sheet) (block
       three : {u u′ d d′ l l′ : ℕ} → u ≡ u′ → d ≡ d′ → l ≡ l′ → _≡_ {A = Replaying} (Counted u d l) (Counted u′ d′ l′)
       three {u′ = u′} {d′ = d′} {l = l} eu ed el = ap₂ (λ (x y : ℕ). Counted x y l) eu ed ∙ ap (Counted u′ d′) el
 
-  pub run-start : {row : List ℕ} {long : ℕ} → row ≡ emptyRow k → long ≡ getD sheet 1 0 → RunLeft s sheet shape (both (rowCount row 0) (rowCount row 0) 0) 0 (3 + long)
+  -- at first, where `long` is the number of the path's length
+  pub run-start : {run : Both} {long : ℕ} → run ≡ bothFirst (direct 32) → long ≡ getD sheet 1 0 → RunLeft s sheet shape run firstPoint (3 + long)
   run-start er e = record {
     left = r .preemptions;
     numbers-at = ap (λ l. drop (3 + l) sheet) (e ∙ facts .places .long-at) ∙ facts .places .list-at;
     rules = facts .rules .each;
     complete = both-right (completePath tp (r .path)) (eachPasses (completeBy ts) (r .preemptions)) (h .complete);
+    points = all-points;
     rises = rises-all (r .preemptions) (facts .rules .rising);
-    in-path = omega arith;
-    few = (omega arith, omega arith, omega arith);
-    same = ap (λ (c : List ℕ). bothEvents k (both (rowCount c 0) (rowCount c 0) 0) (segments ts tp (r .preemptions) 0 (r .path))) er;
+    in-path = some;
+    done-few = omega arith;
+    few = rw er room;
+    same = ap (λ (b : Both). on-from s sheet shape b firstPoint (r .preemptions)) er;
   }
+    where
+      small : length (ownPart s sheet firstPoint (ownLast s sheet)) ≤ 16 * longestPath
+      small =
+          let n : suc (length (r .path) - 1) ≡ length (r .path) = omega (arith, some) in
+          omega (arith, ap length (between-all tp (r .path) (length (r .path) - 1) n), references-few tp (own-bounds s sheet (h .rules)) (r .path), facts .rules .bounds .few)
 
-  module _ (run : Both) (i at : ℕ) (x : RunLeft s sheet shape run i at) where
-    pub run-next : at < length sheet → RunNext s sheet shape run i at
-    run-next l = go (x .left) (x .numbers-at) (x .rules) (x .complete) (x .rises) (x .same)
+      room : CountsFit (bothFirst (direct 32)) (length (ownPart s sheet firstPoint (ownLast s sheet)))
+      room = (omega (arith, small), omega (arith, small), omega (arith, small))
+
+  module _ (run : Both) (from : PathPoint) (at : ℕ) (x : RunLeft s sheet shape run from at) where
+    pub run-next : at < length sheet → RunNext s sheet shape run from at
+    run-next l = go (x .left) (x .numbers-at) (x .rules) (x .complete) (x .points) (x .rises) (x .same)
       where
         go : (xs : List Preemption) → drop at sheet ≡ preemptionNumbers xs → Each (PreemptionInRules (taskCount s) (r .p) (length (r .path))) xs
-            → eachPasses (completeBy ts) xs ≡ true → Rises i xs → on-from s sheet shape run i xs ≡ whole s sheet shape → RunNext s sheet shape run i at
-        go [] d rules c rises same = absurd (omega (arith, ap length d, length-drop at sheet))
-        go (y ∷ ys) d rules c rises same = record {
+            → eachPasses (completeBy ts) xs ≡ true → Each (InPath ts tp (r .path)) xs → Rises (from .position) (from .done) xs
+            → on-from s sheet shape run from xs ≡ whole s sheet shape → RunNext s sheet shape run from at
+        go [] d rules c points rises same = absurd (omega (arith, ap length d, length-drop at sheet))
+        go (y ∷ ys) d rules c points rises same = record {
           first = y;
           rest = ys;
           places = preemption-places sheet at y ys d;
           rule = rules .0;
-          low = rises .0;
+          point = points .0;
+          order = rises .0;
           here = both-left (completePath (task ts (y .by)) (y .path)) _ c;
           rules = rules .1;
           complete = both-right (completePath (task ts (y .by)) (y .path)) _ c;
+          points = points .1;
           rises = rises .1;
           same = same;
         }
 
-    -- ---- a turn: q is the number of the next point
+    -- ---- a turn
 
-    module _ (z : RunNext s sheet shape run i at) {q : ℕ} (eq : q ≡ getD sheet at 0) where
-      point-is : q + 1 ≡ suc (z .first .point)
-      point-is = omega (arith, z .places .point-at)
+    module _ (z : RunNext s sheet shape run from at) where
+      -- q and e are the numbers of the next point
+      pub point-is : {q e : ℕ} → q ≡ getD sheet at 0 → e ≡ getD sheet (at + 1) 0 → _≡_ {A = PathPoint} (record { position = q; done = e }) (pointOf (z .first))
+      point-is eq ee = ap₂ (λ (i d : ℕ). record { position = i; done = d }) (eq ∙ z .places .position-at) (ee ∙ z .places .done-at)
 
-      turn-low : i ≤ q + 1
-      turn-low = omega (arith, point-is, z .low)
+      next-few : z .first .done ≤ length (referencesAt tp (r .path) (z .first .position))
+      next-few = done-le (referencesAt tp (r .path) (z .first .position)) (z .first .done) (z .point .1)
 
-      turn-in : q + 1 ≤ length (r .path)
-      turn-in = omega (arith, point-is, z .rule .inPath)
+      -- the own references up to the point, and those after it
+      joined : length (ownPart s sheet from (pointOf (z .first))) + length (ownPart s sheet (pointOf (z .first)) (ownLast s sheet)) ≡ length (ownPart s sheet from (ownLast s sheet))
+      joined =
+          sym (ap length (between-join tp (r .path) (from .position) (from .done) (z .first .position) (z .first .done) (ownLast s sheet .position) (ownLast s sheet .done) (z .order)
+          (before-last tp (r .path) (pointOf (z .first)) (z .point .0) next-few))
+          ∙ length-append (ownPart s sheet from (pointOf (z .first))) (ownPart s sheet (pointOf (z .first)) (ownLast s sheet)))
 
-      turn-part : ownPart sheet i (q + 1) ≡ take (suc (z .first .point) - i) (drop i (r .path))
-      turn-part = path-part sheet r (facts .places) i (q + 1) turn-low turn-in ∙ ap (λ (j : ℕ). take (j - i) (drop i (r .path))) point-is
-
-      pub own-run : OwnRun s sheet run i (q + 1)
+      pub own-run : OwnRun tp (r .path) run from (pointOf (z .first))
       own-run = record {
-        low = turn-low;
-        short = omega (arith, turn-in, facts .rules .bounds .few);
-        within = omega (arith, turn-in, facts .places .within);
-        below = part-below i (suc (z .first .point) - i) turn-part;
-        few = counts-less run (16 * (longestPath - i)) (omega (arith, part-long i (q + 1), turn-low, turn-in, facts .rules .bounds .few)) (x .few);
+        part = record { inPath = z .point .0; order = z .order; fromDone = x .done-few; toDone = next-few };
+        few = counts-less run (length (ownPart s sheet from (ownLast s sheet))) (omega (arith, joined)) (x .few);
       }
 
       -- y and m are the numbers of the preempting task and of its path's length
-      module _ {y m : ℕ} (ey : y ≡ getD sheet (at + 1) 0) (em : m ≡ getD sheet (at + 2) 0) where
+      module _ {y m : ℕ} (ey : y ≡ getD sheet (at + 2) 0) (em : m ≡ getD sheet (at + 3) 0) where
         by-part : byPart sheet at m ≡ z .first .path
         by-part = part-is sheet refl (em ∙ z .places .long-at) ∙ z .places .path-at
 
@@ -259,73 +252,50 @@ module _ (s sheet : List ℕ) (shape : CacheShape) (h : Passed13 s sheet) (block
           few = omega (arith, ap length by-part, z .rule .bounds .few);
         }
 
-        -- the own blocks up to the point, and then the preempting path
-        pub run-turn : {own after : Both} → own ≡ bothPath k tp run (ownPart sheet i (q + 1))
-            → after ≡ preemptedBoth k own (references (task ts y) (byPart sheet at m)) → RunLeft s sheet shape after (q + 1) (at + 3 + m)
-        run-turn {own} {after} e1 e2 = record {
+        -- the own references up to the point, and then the preempting path
+        turned : {own after : Both} → own ≡ ownBoth k run (ownPart s sheet from (pointOf (z .first)))
+            → after ≡ preemptedBoth k own (references (task ts y) (byPart sheet at m)) → RunLeft s sheet shape after (pointOf (z .first)) (at + 4 + m)
+        turned {own} {after} e1 e2 = record {
           left = z .rest;
-          numbers-at = ap (λ (j : ℕ). drop (at + 3 + j) sheet) (em ∙ z .places .long-at) ∙ z .places .rest-at;
+          numbers-at = ap (λ (j : ℕ). drop (at + 4 + j) sheet) (em ∙ z .places .long-at) ∙ z .places .rest-at;
           rules = z .rules;
           complete = z .complete;
-          rises = rw point-is (z .rises);
-          in-path = turn-in;
-          few = few-after;
-          same = on ∙ z .same;
+          points = z .points;
+          rises = z .rises;
+          in-path = z .point .0;
+          done-few = next-few;
+          few = subst (λ (b : Both). CountsFit b (length (ownPart s sheet (pointOf (z .first)) (ownLast s sheet)))) (sym e2) few-own;
+          same = ap (λ (b : Both). on-from s sheet shape b (pointOf (z .first)) (z .rest)) here ∙ sym (events-refs k (ownPart s sheet from (pointOf (z .first))) run _) ∙ z .same;
         }
           where
-            few-own : CountsFit own (16 * (longestPath - (q + 1)))
+            few-own : CountsFit own (length (ownPart s sheet (pointOf (z .first)) (ownLast s sheet)))
             few-own =
-                counts-after-path k tp bounds (ownPart sheet i (q + 1)) run own (16 * (longestPath - i)) (16 * (longestPath - (q + 1))) e1
-                (omega (arith, part-long i (q + 1), turn-low, turn-in, facts .rules .bounds .few)) (x .few)
+                counts-after k (ownPart s sheet from (pointOf (z .first))) run own (length (ownPart s sheet from (ownLast s sheet)))
+                (length (ownPart s sheet (pointOf (z .first)) (ownLast s sheet))) e1 (omega (arith, joined)) (x .few)
 
-            few-after : CountsFit after (16 * (longestPath - (q + 1)))
-            few-after = subst (λ (b : Both). CountsFit b (16 * (longestPath - (q + 1)))) (sym e2) few-own
+            here : after ≡ preemptedBoth k (ownBoth k run (ownPart s sheet from (pointOf (z .first)))) (allOf ts (z .first))
+            here = e2 ∙ ap₂ (λ (b : Both) (l : List ℕ). preemptedBoth k b l) e1 (ap₂ (λ (t : Task) (l : List ℕ). references t l) by-task by-part)
 
-            further : drop (suc (z .first .point) - i) (drop i (r .path)) ≡ drop (suc (z .first .point)) (r .path)
-            further =
-                let e : i + (suc (z .first .point) - i) ≡ suc (z .first .point) = omega (arith, z .low) in
-                drop-drop (suc (z .first .point) - i) i (r .path) ∙ ap (λ (j : ℕ). drop j (r .path)) e
+        pub run-turn : {to : PathPoint} {own after : Both} → to ≡ pointOf (z .first) → own ≡ ownBoth k run (ownPart s sheet from (pointOf (z .first)))
+            → after ≡ preemptedBoth k own (references (task ts y) (byPart sheet at m)) → RunLeft s sheet shape after to (at + 4 + m)
+        run-turn {after = after} et e1 e2 = subst (λ (p : PathPoint). RunLeft s sheet shape after p (at + 4 + m)) (sym et) (turned e1 e2)
 
-            -- the preempting references, and the own ones before them
-            fs : List ℕ
-            fs = references (task ts (z .first .by)) (z .first .path)
+    -- ---- the end
 
-            here : after ≡ preemptedBoth k (bothPath k tp run (take (suc (z .first .point) - i) (drop i (r .path)))) fs
-            here =
-                e2 ∙ ap₂ (λ (b : Both) (l : List ℕ). preemptedBoth k b l) (e1 ∙ ap (bothPath k tp run) turn-part)
-                (ap₂ (λ (t : Task) (l : List ℕ). references t l) by-task by-part)
+    pub end-run : OwnRun tp (r .path) run from (ownLast s sheet)
+    end-run = record {
+      part = record {
+        inPath = omega (arith, some);
+        order = before-last tp (r .path) from (x .in-path) (x .done-few);
+        fromDone = x .done-few;
+        toDone = omega arith;
+      };
+      few = x .few;
+    }
 
-            on : on-from s sheet shape after (q + 1) (z .rest) ≡ on-from s sheet shape run i (z .first ∷ z .rest)
-            on =
-                ap (λ (j : ℕ). bothEvents k after (segments ts tp (z .rest) j (drop j (r .path)))) point-is
-                ∙ ap₂ (λ (b : Both) (l : List ℕ). bothEvents k b (segments ts tp (z .rest) (suc (z .first .point)) l)) here (sym further)
-                ∙ sym (events-path k tp (take (suc (z .first .point) - i) (drop i (r .path))) run
-                (Preempt fs ∷ segments ts tp (z .rest) (suc (z .first .point)) (drop (suc (z .first .point) - i) (drop i (r .path)))))
-
-    -- ---- the end: long is the number of the path's length
-
-    module _ (l : length sheet ≤ at) {long : ℕ} (el : long ≡ getD sheet 1 0) where
-      in-path : i ≤ long
-      in-path = omega (arith, x .in-path, facts .places .long-at)
-
-      end-part : ownPart sheet i long ≡ drop i (r .path)
-      end-part =
-          path-part sheet r (facts .places) i long in-path (omega (arith, facts .places .long-at))
-          ∙ take-all (long - i) (drop i (r .path)) (omega (arith, length-drop i (r .path), facts .places .long-at))
-
-      pub end-run : OwnRun s sheet run i long
-      end-run = record {
-        low = in-path;
-        short = omega (arith, facts .places .long-at, facts .rules .bounds .few);
-        within = omega (arith, facts .places .long-at, facts .places .within);
-        below = rw end-part (all-drop (λ (b : ℕ). b < length tp) i (r .path) own-blocks);
-        few = counts-less run (16 * (longestPath - i)) (omega (arith, part-long i long, in-path, facts .places .long-at, facts .rules .bounds .few)) (x .few);
-      }
-
-      pub run-end : {end : Both} → end ≡ bothPath k tp run (ownPart sheet i long) → Counted (end .undisturbed .count) (end .disturbed .count) (end .lost) ≡ countedIn s r
-      run-end e =
-          let none = none-left sheet at (x .left) l (x .numbers-at) in
-          ap (λ (b : Both). Counted (b .undisturbed .count) (b .disturbed .count) (b .lost)) (
-          e ∙ ap (bothPath k tp run) end-part ∙ sym (events-path k tp (drop i (r .path)) run [])
-          ∙ ap (on-from s sheet shape run i) (sym none) ∙ x .same)
-          ∙ whole-counts
+    pub run-end : length sheet ≤ at → {end : Both} → end ≡ ownBoth k run (ownPart s sheet from (ownLast s sheet)) → Counted (end .undisturbed .count) (end .disturbed .count) (end .lost) ≡ countedIn s r
+    run-end l e =
+        let none = none-left sheet at (x .left) l (x .numbers-at) in
+        ap (λ (b : Both). Counted (b .undisturbed .count) (b .disturbed .count) (b .lost)) (
+        e ∙ sym (events-refs k (ownPart s sheet from (ownLast s sheet)) run []) ∙ ap (on-from s sheet shape run from) (sym none) ∙ x .same)
+        ∙ whole-counts

@@ -1,5 +1,6 @@
 pub mod SheetLaws
-pub mod MaskLaws
+pub mod OwnPath
+pub mod PointLaws
 pub mod CountLaws
 pub mod Replays
 pub mod CallLaws

@@ -6,7 +6,7 @@ use mathlib.Core.Bool.{Bool, true, false, not, true≢false, false≢true}
 use mathlib.Core.List.{List, [], _∷_}
 use Prim.Native.Nat.{ℕ, _+_, _≤_, _<_}
 use native.Mathlib.Omega.{arith}
-use lib.ListN.{length}
+use lib.ListN.{length, getD}
 use borrow.Author.Tests.{not-true}
 use Rattle.cache.specs.References.{All}
 use Rattle.model.specs.Lists.{Each}
@@ -34,12 +34,15 @@ use Rattle.sheet.specs.Parsed.{Parsed, broken, parsed, parse, keptSheet, runOf,
 use Rattle.sheet.proofs.Parsing.{parsed-rules, broken-fault, fault-broken}
 use Rattle.sheet.proofs.CompletePaths.{complete-exact}
 use Rattle.sheet.proofs.SheetRuns.{acceptedRun, run-sheet, incomplete-exact, masked-exact}
+use Rattle.runs.specs.Parts.{referencesAt}
+use Rattle.body.proofs.Decoded.{few-references}
+use Rattle.runs.proofs.Segments.{done-le}
 use Rattle.replay.specs.declared.Replaying.{Replaying}
 use Rattle.replay.specs.declared.Replaying.the-variants.{Counted, Refused}
 use Rattle.replay.specs.Replay.{runIn, test12, test13, test16, sheetChecks, sheetCheck, replayChecks, replayCheck, undisturbedIn, disturbedIn, lostIn, countedIn, pickReplaying, replayingOf}
 use Rattle.replay.specs.ReplayVerdict.{Replayed, ReplayVerdict}
 use Rattle.replay.proofs.CallLaws.{replay-parts, answer-by, SheetPassed, passed-sheet}
-use Rattle.replay.proofs.CountLaws.{complete-blocks}
+use Rattle.replay.proofs.OwnPath.{complete-blocks}
 
 -- ---- the verdict
 
@@ -71,7 +74,7 @@ module _ (s sheet : List ℕ) where
 
   its-run : SheetPassed s sheet → Replayed s sheet (undisturbedIn s (runIn s sheet)) (disturbedIn s (runIn s sheet)) (lostIn s (runIn s sheet))
   its-run p = record {
-    run = acceptedRun (tasksOf s) sheet (runIn s sheet) (is-parsed (p .kept)) (p .complete) (p .unmasked);
+    run = acceptedRun (tasksOf s) sheet (runIn s sheet) (is-parsed (p .kept)) (p .complete) (p .done) (p .unmasked);
     sheet-of = parsed-rules (length (tasksOf s)) sheet (runIn s sheet) (is-parsed (p .kept)) .numbers;
     undisturbed = refl;
     disturbed = refl;
@@ -135,24 +138,31 @@ run-replayed s h run f =
     let o = run-sheet (tasksOf s) run f in
     let sheet = sheetNumbers (sheetRun (tasksOf s) run) in
     let q : parse (taskCount s) sheet ≡ parsed (sheetRun (tasksOf s) run) = rw (tasks-long s) at (o .parses) in
-    answer-by s sheet Passed (replay-parts s sheet ∙ rw (accepted-passed s (cacheBlocks s) (taskCount s) (reading s h) .0, q, o .complete, o .unmasked)) ∙ rw q
+    answer-by s sheet Passed (replay-parts s sheet ∙ rw (accepted-passed s (cacheBlocks s) (taskCount s) (reading s h) .0, q, o .complete, o .right, o .unmasked)) ∙ rw q
 
 module _ (s : List ℕ) (h : accepted (readingOf s) ≡ true) where
   below : (j : ℕ) (path : List ℕ) → j < length (tasksOf s) → completePath (task (tasksOf s) j) path ≡ true → All (λ (x : ℕ). x < 65536) path
   below j path l c =
       all-map (λ b k. omega (arith, task-bounds s j h (rw (tasks-long s) at l) .few)) path (complete-blocks (task (tasksOf s) j) path c)
 
-  each-below : (p : ℕ) (path : List ℕ) (xs : List Preemption) → length path ≤ longestPath → Each (Preempts (tasksOf s) p path) xs → Each (λ (x : Preemption). length (x .path) ≤ longestPath) xs
-      → All (λ (x : ℕ). x < 65536) (preemptionNumbers xs)
-  each-below p path [] k e f = tt
-  each-below p path (x ∷ xs) k e f = (
+  each-below : (p : ℕ) (path : List ℕ) (xs : List Preemption) → p < length (tasksOf s) → length path ≤ longestPath → Each (Preempts (tasksOf s) p path) xs
+      → Each (λ (x : Preemption). length (x .path) ≤ longestPath) xs → All (λ (x : ℕ). x < 65536) (preemptionNumbers xs)
+  each-below p path [] l k e f = tt
+  each-below p path (x ∷ xs) l k e f = (
     omega (arith, e .0 .inPath),
     (
-      omega (arith, e .0 .there, tasks-long s, few),
+      omega (
+        arith,
+        done-le (referencesAt (task (tasksOf s) p) path (x .position)) (x .done) (e .0 .right),
+        few-references (task (tasksOf s) p) (task-bounds s p h (rw (tasks-long s) at l)) (getD path (x .position) 0),
+      ),
       (
-        omega (arith, f .0),
-        all-join (λ (x : ℕ). x < 65536) (x .path) (preemptionNumbers xs)
-            (below (x .by) (x .path) (e .0 .there) (complete-exact (task (tasksOf s) (x .by)) (x .path) .1 (e .0 .complete))) (each-below p path xs k (e .1) (f .1)),
+        omega (arith, e .0 .there, tasks-long s, few),
+        (
+          omega (arith, f .0),
+          all-join (λ (x : ℕ). x < 65536) (x .path) (preemptionNumbers xs)
+              (below (x .by) (x .path) (e .0 .there) (complete-exact (task (tasksOf s) (x .by)) (x .path) .1 (e .0 .complete))) (each-below p path xs l k (e .1) (f .1)),
+        ),
       ),
     ),
   )
@@ -167,6 +177,6 @@ module _ (s : List ℕ) (h : accepted (readingOf s) ≡ true) where
       omega (arith, f .short),
       all-join (λ (x : ℕ). x < 65536) (run .path) (length (run .preemptions) ∷ preemptionNumbers (run .preemptions))
           (below (run .p) (run .path) (run .there) (complete-exact (task (tasksOf s) (run .p)) (run .path) .1 (run .complete)))
-          (omega (arith, f .few), each-below (run .p) (run .path) (run .preemptions) (f .short) (run .each) (f .each)),
+          (omega (arith, f .few), each-below (run .p) (run .path) (run .preemptions) (run .there) (f .short) (run .each) (f .each)),
     ),
   )

@@ -1,4 +1,5 @@
--- Check 13 in the code's words: where the parts of a sheet stand, a turn of a loop over the preemptions, for any test of them, and the paths.
+-- Check 13 of the paths in the code's words: where the parts of a sheet stand, a turn of a loop over the preemptions, for any test of them, and the
+-- paths.
 -- The idea: what is left of the list passes the test just where the whole list does.
 use mathlib.Core.Path.{_≡_, refl, sym, ap, ap₂, _∙_}
 use mathlib.Core.Bool.{Bool, true, false, _&&_}
@@ -104,22 +105,22 @@ module _ (test : Preemption → Bool) (s sheet : List ℕ) where
       each-broken q = ap (λ x. x && eachPasses test (n .rest)) (sym q) ∙ n .same
 
       -- where k is the number of its path's length
-      pub each-on : {k : ℕ} → k ≡ getD sheet (at + 2) 0 → test (n .first) ≡ true → EachLeft test s sheet (at + 3 + k)
+      pub each-on : {k : ℕ} → k ≡ getD sheet (at + 3) 0 → test (n .first) ≡ true → EachLeft test s sheet (at + 4 + k)
       each-on e q = record {
         left = n .rest;
-        numbers-at = ap (λ i. drop (at + 3 + i) sheet) (e ∙ n .places .long-at) ∙ n .places .rest-at;
+        numbers-at = ap (λ i. drop (at + 4 + i) sheet) (e ∙ n .places .long-at) ∙ n .places .rest-at;
         rules = n .rules;
         same = ap (λ x. x && eachPasses test (n .rest)) (sym q) ∙ n .same;
       }
 
 -- ---- the path of the next preemption, where y and k are the numbers of its task and of its length
 
-module _ (test : Preemption → Bool) (s sheet : List ℕ) (at : ℕ) (n : NextLeft test s sheet at) {y k : ℕ} (ey : y ≡ getD sheet (at + 1) 0) (ek : k ≡ getD sheet (at + 2) 0) where
+module _ (test : Preemption → Bool) (s sheet : List ℕ) (at : ℕ) (n : NextLeft test s sheet at) {y k : ℕ} (ey : y ≡ getD sheet (at + 2) 0) (ek : k ≡ getD sheet (at + 3) 0) where
   pub next-there : y < taskCount s
   next-there = omega (arith, n .places .task-at, n .rule .there)
 
-  next-path : take (at + 3 + k - (at + 3)) (drop (at + 3) sheet) ≡ n .first .path
+  next-path : take (at + 4 + k - (at + 4)) (drop (at + 4) sheet) ≡ n .first .path
   next-path = part-is sheet refl (ek ∙ n .places .long-at) ∙ n .places .path-at
 
-  pub next-judged : (ts : List Task) {b : Bool} → b ≡ completePath (task ts y) (take (at + 3 + k - (at + 3)) (drop (at + 3) sheet)) → completeBy ts (n .first) ≡ b
+  pub next-judged : (ts : List Task) {b : Bool} → b ≡ completePath (task ts y) (take (at + 4 + k - (at + 4)) (drop (at + 4) sheet)) → completeBy ts (n .first) ≡ b
   next-judged ts e = sym (e ∙ ap₂ (λ j. completePath (task ts j)) (ey ∙ n .places .task-at) next-path)

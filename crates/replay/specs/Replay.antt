@@ -1,6 +1,6 @@
--- Document 01, "Calls" and "Numbers of the checks", and document 02, Points 1 and 5: Replay. Definitions only.
+-- Document 01, "Calls" and "Numbers of the checks", and document 02, Points 1, 5 and 6: Replay. Definitions only.
 use mathlib.Core.Path.{_≡_}
-use mathlib.Core.Bool.{Bool, true, not}
+use mathlib.Core.Bool.{Bool, true, not, _&&_}
 use mathlib.Core.List.{List, [], _∷_, _++_}
 use Prim.Native.Nat.{ℕ}
 use Rattle.model.specs.Tasks.{task}
@@ -14,7 +14,7 @@ use Rattle.project.specs.Reading.{fileChecks, readingOf}
 use Rattle.project.specs.Bodies.{accepted}
 use Rattle.project.specs.Tasks.{tasksOf, fileCache}
 use Rattle.sheet.specs.Sheet.{SheetRun, Sheet, Fault12, Fault13, Fault16}
-use Rattle.sheet.specs.Parsed.{parse, keptSheet, runOf, completeAll, unmaskedAll}
+use Rattle.sheet.specs.Parsed.{parse, keptSheet, runOf, completeAll, doneAll, unmaskedAll}
 use Rattle.replay.specs.declared.Replaying.{Replaying}
 use Rattle.replay.specs.declared.Replaying.the-variants.{Counted, Refused}
 
@@ -26,11 +26,12 @@ runIn s sheet = runOf (parse (taskCount s) sheet)
 abbrev pub test12 : File → Sheet → Bool
 test12 s sheet = not (keptSheet (parse (taskCount s) sheet))
 
--- check 13: some path of the run isn't complete
+-- check 13: some path of the run isn't complete, or some number of references done is wrong (document 02, Point 6: "a wrong number of references is
+-- check 13")
 abbrev pub test13 : File → Sheet → Bool
-test13 s sheet = not (completeAll (tasksOf s) (runIn s sheet))
+test13 s sheet = not (completeAll (tasksOf s) (runIn s sheet) && doneAll (tasksOf s) (runIn s sheet))
 
--- check 16: some preemption of the run comes after a masked block
+-- check 16: some preemption of the run comes in a masked block
 abbrev pub test16 : File → Sheet → Bool
 test16 s sheet = not (unmaskedAll (tasksOf s) (runIn s sheet))
 
@@ -86,3 +87,4 @@ pub record Passed12 (s : File) (sheet : Sheet) : Type 0 where
 pub record Passed13 (s : File) (sheet : Sheet) : Type 0 where
   pub rules : Passed12 s sheet
   pub complete : completeAll (tasksOf s) (runIn s sheet) ≡ true
+  pub done : doneAll (tasksOf s) (runIn s sheet) ≡ true

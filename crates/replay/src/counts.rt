@@ -4,13 +4,14 @@ ghost use mathlib.Core.Bool.{true};
 ghost use Prim.Native.Nat.{_*_, _^_, _<_};
 ghost use lib.ListN.{length};
 ghost use Rattle.cache.specs.References.{All};
+ghost use Rattle.cache.specs.Cache.{direct};
 ghost use Rattle.cache.specs.Shape.{shaped};
 ghost use Rattle.model.specs.Tasks.{references, task};
 ghost use Rattle.project.specs.File.{taskCount};
 ghost use Rattle.project.specs.Reading.{readingOf};
 ghost use Rattle.project.specs.Bodies.{accepted};
 ghost use Rattle.project.specs.Tasks.{tasksOf, fileShape};
-ghost use Rattle.runs.specs.Running.{heldBoth, preemptedBoth};
+ghost use Rattle.runs.specs.Running.{heldBoth, bothFirst, preemptedBoth};
 ghost use Rattle.replay.specs.Replay.{runIn, countedIn, Passed13};
 use crate::Replaying;
 use body::walk;
@@ -19,9 +20,24 @@ use cache::numbers::count;
 use cache::row::Row;
 use reader::task_body;
 use runs::both_runs::BothRuns;
-use runs::path::after_path_both;
+use runs::part::PathPoint;
+use runs::part::after_part_both;
+use runs::part::last_point;
 use runs::path::run_path;
 use runs::replay_cache::ReplayCache;
+
+// Both runs at first, with two empty caches.
+fn empty_runs() -> BothRuns
+    ensures { λ r. ⌜ heldBoth r ≡ bothFirst (direct 32) ⌝ }
+{
+    let cells = Row::EMPTY.cells();
+    let empty = ReplayCache { cells, misses: 0 };
+    BothRuns {
+        undisturbed: empty,
+        disturbed: empty,
+        lost: 0,
+    }
+}
 
 // Both runs after a preemption by a path of the task numbered j: it changes the disturbed row alone; what it misses isn't counted.
 fn preempted(file: &[u8], j: usize, path: &[u16], shape: CacheShape, runs: BothRuns) -> BothRuns
@@ -47,8 +63,8 @@ fn preempted(file: &[u8], j: usize, path: &[u16], shape: CacheShape, runs: BothR
     }
 }
 
-// The three counts. The run goes on from point to point: i is the next position of the path, and the next preemption begins at `at`. Own
-// references are made in both runs, from two empty caches.
+// The three counts. The run goes from point to point: `from` is the point that is reached, and the next preemption begins at `at`. Own references
+// are made in both runs, from two empty caches.
 pub fn run_counts(file: &[u8], sheet: &[u16], shape: CacheShape) -> Replaying
     requires { ⌜ Passed13 (now file) (now sheet) × (shape ≡ fileShape (now file)) ⌝ }
     ensures { λ r. ⌜ r ≡ countedIn (now (file .entry)) (runIn (now (file .entry)) (now (sheet .entry))) ⌝ }
@@ -56,28 +72,30 @@ pub fn run_counts(file: &[u8], sheet: &[u16], shape: CacheShape) -> Replaying
     let long = count(sheet[1]);
     let body = task_body(file, count(sheet[0]));
     let starts = walk(body).starts;
-    let cells = Row::EMPTY.cells();
-    let empty = ReplayCache { cells, misses: 0 };
-    let mut run = BothRuns {
-        undisturbed: empty,
-        disturbed: empty,
-        lost: 0,
+    let path = &sheet[2..2 + long];
+    let mut run = empty_runs();
+    let mut from = PathPoint {
+        position: 0,
+        done: 0,
     };
-    let mut i: usize = 0;
     let mut at = 3 + long;
     while at < sheet.len() {
-        let next = count(sheet[at]) + 1;
-        let own = after_path_both(body, &starts, &sheet[2 + i..2 + next], shape, run);
-        let from = at + 3;
-        let to = from + count(sheet[at + 2]);
-        run = preempted(file, count(sheet[at + 1]), &sheet[from..to], shape, own);
-        i = next;
-        at = to;
+        let to = PathPoint {
+            position: count(sheet[at]),
+            done: count(sheet[at + 1]),
+        };
+        let own = after_part_both(body, &starts, path, from, to, shape, run);
+        let first = at + 4;
+        let next = first + count(sheet[at + 3]);
+        run = preempted(file, count(sheet[at + 2]), &sheet[first..next], shape, own);
+        from = to;
+        at = next;
     }
-    let end = after_path_both(body, &starts, &sheet[2 + i..2 + long], shape, run);
+    let last = last_point(body, &starts, path);
+    let all = after_part_both(body, &starts, path, from, last, shape, run);
     Replaying::Counted {
-        undisturbed: end.undisturbed.misses,
-        disturbed: end.disturbed.misses,
-        lost: end.lost,
+        undisturbed: all.undisturbed.misses,
+        disturbed: all.disturbed.misses,
+        lost: all.lost,
     }
 }

@@ -1,4 +1,4 @@
-// Prints the runs that cost most of document 02, Points 3 and 5: for two tasks of a file their pair number, the sheet that is written and its replay;
+// Prints the runs that cost most of document 02, Points 3, 5 and 6: for two tasks of a file their pair number, the sheet that is written and its replay;
 // and what the call refuses.
 ghost use mathlib.Core.Path.{_≡_};
 ghost use Prim.Native.Nat.{_≤_, _<_};
@@ -12,6 +12,7 @@ use example_files::FIGURE_1_AND_FORK;
 use example_files::FIVE_ARMS;
 use example_files::SHARED_BOTH;
 use example_files::SIX_FORKS_OF_TASKS_2_AND_3;
+use example_files::TWICE;
 use example_files::with_byte;
 use libc::STDOUT_FILENO;
 use project::answers::Filling;
@@ -91,11 +92,12 @@ fn print_place(name: &[u8], sheet: &[u16], at: usize) {
     }
 }
 
-// The number of preemptions and the length of the first preempting path, after a path of so many blocks.
+// The number of preemptions, the references done at the first and the length of its path, after a path of so many blocks.
 fn print_preemption(sheet: &[u16], blocks: u16) {
     let count = 2 + blocks as usize;
     print_place(b", preemptions ", sheet, count);
-    print_place(b", preempting path length ", sheet, count + 3);
+    print_place(b", references done ", sheet, count + 2);
+    print_place(b", preempting path length ", sheet, count + 4);
 }
 
 // The lengths of the sheet's paths, and its number of preemptions.
@@ -157,7 +159,7 @@ fn show(name: &[u8], file: &[u8], i: usize, j: usize)
     let mut first = [0u16; AREA_LENGTH];
     let mut second = [0u16; AREA_LENGTH];
     let mut numbers = [0u16; 64];
-    let mut sheet = [0u16; 2310];
+    let mut sheet = [0u16; 2311];
     print_asked(name, i, j);
     print_pair_number(file, i, j, &mut first, &mut numbers);
     print_run(file, i, j, &mut first, &mut second, &mut sheet);
@@ -230,7 +232,7 @@ fn show_kept(
 
 // What the call answers with areas of the right length and the shortest sheet that is long enough.
 fn show_refused(name: &[u8], file: &[u8], i: usize, j: usize) {
-    show_kept(name, file, i, j, AREA_LENGTH, AREA_LENGTH, 2310);
+    show_kept(name, file, i, j, AREA_LENGTH, AREA_LENGTH, 2311);
 }
 
 // Runs in E, with its block masked too, and in the graph of figure 1.
@@ -259,14 +261,19 @@ fn show_shared() {
     show(b"one of two memory blocks shared", &SHARED_BOTH, 0, 1);
 }
 
+// A run that loses its hit between two references of one block.
+fn show_between() {
+    show(b"one memory block read twice", &TWICE, 0, 1);
+}
+
 // Lists of other lengths.
 fn show_lengths() {
-    show_kept(b"E, first area of 24831", &E, 0, 1, 24831, 24832, 2310);
-    show_kept(b"E, second area of 24833", &E, 0, 1, 24832, 24833, 2310);
-    show_kept(b"E, sheet of 2309", &E, 0, 1, 24832, 24832, 2309);
+    show_kept(b"E, first area of 24831", &E, 0, 1, 24831, 24832, 2311);
+    show_kept(b"E, second area of 24833", &E, 0, 1, 24832, 24833, 2311);
+    show_kept(b"E, sheet of 2310", &E, 0, 1, 24832, 24832, 2310);
     show_kept(b"E, sheet of 2400", &E, 0, 1, 24832, 24832, 2400);
-    show_kept(b"E, sheet of 2309", &E, 0, 0, 24832, 24832, 2309);
-    show_kept(b"7 bytes, areas of 0", &E[0..7], 0, 1, 0, 0, 2310);
+    show_kept(b"E, sheet of 2310", &E, 0, 0, 24832, 24832, 2310);
+    show_kept(b"7 bytes, areas of 0", &E[0..7], 0, 1, 0, 0, 2311);
 }
 
 // Tasks that are equal or not below t, a file that is not accepted, and tasks with too many states.
@@ -286,6 +293,7 @@ fn main() {
     show_documents();
     show_larger();
     show_shared();
+    show_between();
     show_lengths();
     show_tasks();
 }

@@ -1,23 +1,23 @@
--- Both runs in the code's words: one own reference, a turn of the loop over a block's references, and a turn of the loop over a path's blocks.
+-- Both runs in the code's words: one own reference, a turn of the loop over a block's references, and a turn of the loop over the blocks of a part
+-- of a path.
 -- The idea: what is left, made from here, gives what all of it gives from the start.
-use mathlib.Core.Path.{_≡_, sym, ap, ap₂, _∙_}
+use mathlib.Core.Path.{_≡_, refl, sym, ap, ap₂, _∙_}
 use mathlib.Core.Bool.{Bool, not, _&&_}
-use mathlib.Core.List.{List, [], _∷_}
+use mathlib.Core.List.{List, [], _∷_, _++_}
 use Prim.Native.Nat.{ℕ, _+_, _*_, _/_, _<_, _≤_}
-use native.Mathlib.Numerals.{add-one}
 use native.Mathlib.Omega.{arith}
-use lib.ListN.{length, getD, drop, drop-of-length-le}
-use lib.Seq.{drop-cons}
+use lib.ListN.{length, drop}
 use Rattle.cache.specs.Sum.{bit}
 use Rattle.cache.specs.References.{numberAt, numbers}
 use Rattle.cache.specs.Cache.{Cache, hits}
 use Rattle.cache.proofs.Sums.{bit-le}
-use Rattle.model.specs.Tasks.{Block, Task, block}
+use Rattle.model.specs.Tasks.{Task}
 use Rattle.model.specs.Runs.{RowCount}
-use Rattle.body.specs.Layout.{InBounds}
-use Rattle.runs.specs.Running.{withOwn, Both, both, CountsFit, withBoth, ownBoth, bothPath}
+use Rattle.runs.specs.Running.{withOwn, Both, both, CountsFit, withBoth, ownBoth}
+use Rattle.runs.specs.Parts.{partAt, PartIn}
+use Rattle.runs.specs.declared.part.PathPoint.{PathPoint}
 use Rattle.runs.proofs.CacheLaws.{next-number, no-number}
-use Rattle.runs.proofs.PathCounts.{few-references}
+use Rattle.runs.proofs.PartTurns.{partLeft, part-turn, part-end}
 
 -- ---- the counts
 
@@ -46,24 +46,6 @@ counts-after k ms s r n m e l c =
       omega (arith, ap (λ (x : Both). x .lost) e, a .2, c .2),
     )
 
-path-both-adds : (k : Cache) (t : Task) → InBounds t → (p : List ℕ) (s : Both) → Adds s (bothPath k t s p) (16 * length p)
-path-both-adds k t h [] s = (omega arith, omega arith, omega arith)
-path-both-adds k t h (b ∷ p) s =
-    let ms = block t b .references in
-    let a = own-both-adds k ms s in
-    let z = path-both-adds k t h p (ownBoth k s ms) in
-    let f = few-references t h b in
-    (omega (arith, a .0, z .0, f), omega (arith, a .1, z .1, f), omega (arith, a .2, z .2, f))
-
--- the same after the references of a path
-pub counts-after-path : (k : Cache) (t : Task) → InBounds t → (p : List ℕ) (s r : Both) (n m : ℕ) → r ≡ bothPath k t s p → 16 * length p + m ≤ n → CountsFit s n → CountsFit r m
-counts-after-path k t h p s r n m e l c =
-    let a = path-both-adds k t h p s in (
-      omega (arith, ap (λ (x : Both). x .undisturbed .count) e, a .0, c .0),
-      omega (arith, ap (λ (x : Both). x .disturbed .count) e, a .1, c .1),
-      omega (arith, ap (λ (x : Both). x .lost) e, a .2, c .2),
-    )
-
 -- ---- one own reference
 
 -- the lost hits, by the two answers
@@ -84,14 +66,20 @@ module _ (k : Cache) (s : List ℕ) (i : ℕ) (b : Both) where
   pub both-end : length s / 2 ≤ i → b ≡ ownBoth k b (drop i (numbers s))
   both-end h = ap (ownBoth k b) (no-number s i h)
 
--- ---- the blocks of a path
+-- ---- the blocks of a part of a path
 
-module _ (k : Cache) (t : Task) (path : List ℕ) (i : ℕ) (b : Both) where
-  pub both-path-turn : (bytes : List ℕ) {r : Both} → i < length path → numbers bytes ≡ block t (getD path i 0) .references → r ≡ ownBoth k b (numbers bytes)
-      → bothPath k t r (drop (i + 1) path) ≡ bothPath k t b (drop i path)
-  both-path-turn bytes h er en =
-      ap (λ (x : Both). bothPath k t x (drop (i + 1) path)) (en ∙ ap (ownBoth k b) er)
-      ∙ ap (bothPath k t b) (sym (drop-cons path i 0 h ∙ ap (λ j. getD path i 0 ∷ drop j path) (sym (add-one i))))
+own-both-append : (k : Cache) (a b : List ℕ) (s : Both) → ownBoth k s (a ++ b) ≡ ownBoth k (ownBoth k s a) b
+own-both-append k [] b s = refl
+own-both-append k (m ∷ a) b s = own-both-append k a b (withBoth k s m)
 
-  pub both-path-end : length path ≤ i → b ≡ bothPath k t b (drop i path)
-  both-path-end h = ap (bothPath k t b) (sym (drop-of-length-le path {i = i} h))
+module _ (k : Cache) (t : Task) (path : List ℕ) (from to : PathPoint) (x : ℕ) (b : Both) where
+  -- the next block of the part
+  pub both-part-turn : (bytes : List ℕ) {r : Both} → PartIn t path from to → from .position ≤ x → x ≤ to .position → numbers bytes ≡ partAt t path from to x
+      → r ≡ ownBoth k b (numbers bytes) → ownBoth k r (partLeft t path from to (x + 1)) ≡ ownBoth k b (partLeft t path from to x)
+  both-part-turn bytes h l u er en =
+      ap (λ (y : Both). ownBoth k y (partLeft t path from to (x + 1))) (en ∙ ap (ownBoth k b) er)
+      ∙ sym (own-both-append k (partAt t path from to x) (partLeft t path from to (x + 1)) b)
+      ∙ ap (ownBoth k b) (sym (part-turn t path from to h x l u))
+
+  pub both-part-end : to .position + 1 ≤ x → b ≡ ownBoth k b (partLeft t path from to x)
+  both-part-end h = ap (ownBoth k b) (sym (part-end t path from to x h))

@@ -1,4 +1,6 @@
 pub mod Widths
+pub mod PartLaws
+pub mod PartTurns
 pub mod Segments
 pub mod PathCounts
 pub mod CacheLaws
@@ -9,4 +11,5 @@ pub mod LentRow
 pub mod ReferCaller
 pub mod BothLaws
 pub mod PathCaller
+pub mod PartCaller
 pub mod BothEvents

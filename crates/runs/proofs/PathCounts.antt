@@ -3,17 +3,17 @@
 use mathlib.Core.Path.{_≡_, refl, sym, ap, _∙_}
 use mathlib.Core.Bool.{not}
 use mathlib.Core.List.{List, [], _∷_}
-use Prim.Native.Nat.{ℕ, zero, suc, _+_, _≤_}
+use Prim.Native.Nat.{ℕ, zero, suc, _+_, _*_, _≤_}
 use native.Mathlib.Omega.{arith}
-use lib.ListN.{length}
+use lib.ListN.{length, length-append}
 use Rattle.cache.specs.Cache.{Cache, hits, withReferences}
 use Rattle.cache.proofs.Rows.{withReferences-append}
 use Rattle.cache.proofs.Sums.{bit-le}
-use Rattle.model.specs.Lists.{Each}
 use Rattle.model.specs.Tasks.{Block, Task, block, references}
 use Rattle.model.specs.Runs.{RowCount, ownReferences}
 use Rattle.model.proofs.RunEvents.{own-row}
-use Rattle.body.specs.Layout.{BlockInBounds, InBounds}
+use Rattle.body.specs.Layout.{InBounds}
+use Rattle.body.proofs.Decoded.{few-references}
 use Rattle.runs.specs.Running.{withOwn, ownPath}
 
 -- ---- the row
@@ -31,10 +31,7 @@ pub own-bound : (k : Cache) (ms : List ℕ) (s : RowCount) → ownReferences k s
 own-bound k [] s = omega arith
 own-bound k (m ∷ ms) s = omega (arith, own-bound k ms (withOwn k s m), bit-le (not (hits k (s .row) m)))
 
-pub few-references : (t : Task) → InBounds t → (b : ℕ) → length (block t b .references) ≤ 16
-few-references t h b = go t (h .each) b
-  where
-    go : (u : Task) → Each (BlockInBounds (length t)) u → (b : ℕ) → length (block u b .references) ≤ 16
-    go [] e b = omega arith
-    go (x ∷ u) e zero = e .0 .references
-    go (x ∷ u) e (suc b) = go u (e .1) b
+-- the references of a path are few
+pub references-few : (t : Task) → InBounds t → (p : List ℕ) → length (references t p) ≤ 16 * length p
+references-few t h [] = omega arith
+references-few t h (b ∷ p) = omega (arith, length-append (block t b .references) (references t p), few-references t h b, references-few t h p)

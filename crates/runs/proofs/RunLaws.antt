@@ -11,17 +11,16 @@ use lib.ListN.{length, getD, drop, replicate, length-append, drop-of-length-le}
 use lib.Seq.{drop-cons}
 use Rattle.cache.specs.References.{All, numbers}
 use Rattle.cache.specs.Cache.{Cache}
-use Rattle.cache.proofs.NumberLaws.{length-numbers}
 use Rattle.model.specs.Tasks.{Block, Task, block}
 use Rattle.model.specs.Runs.{RowCount, ownReferences}
 use Rattle.body.specs.Layout.{InBounds}
 use Rattle.body.specs.Decode.{decode, taskOf}
 use Rattle.body.specs.Walk.{startsFrom, keptOf, startsOf}
-use Rattle.body.proofs.Decoded.{decoded-bounds}
+use Rattle.body.proofs.Decoded.{decoded-bounds, few-references}
 use Rattle.body.proofs.Walks.{length-starts}
 use Rattle.body.proofs.WalksParts.{BlockParts, kept-decoded, walked-parts}
 use Rattle.runs.specs.Running.{rowCount, ownPath}
-use Rattle.runs.proofs.PathCounts.{own-bound, few-references}
+use Rattle.runs.proofs.PathCounts.{own-bound}
 
 pub all-at : (P : ℕ → Type 0) (l : List ℕ) → All P l → (i : ℕ) → i < length l → P (getD l i 0)
 all-at P [] a i h = absurd (not-suc-le-zero h)
@@ -43,10 +42,6 @@ pub starts-long : (s starts : List ℕ) → keptOf (decode s) ≡ true → start
 starts-long s starts k es =
     let (t, q) = kept-decoded (decode s) k in
     rw (es, q) (omega (arith, length-append (startsFrom 2 t) (replicate (24 - length t) 0), length-starts 2 t))
-
--- the bytes of a block's references are few
-pub few-bytes : (t : Task) → InBounds t → (b : ℕ) (bytes : List ℕ) → numbers bytes ≡ block t b .references → length bytes / 2 ≤ 16
-few-bytes t h b bytes e = omega (arith, length-numbers bytes, ap length e, few-references t h b)
 
 module _ (k : Cache) (t : Task) (path : List ℕ) (i : ℕ) (cells : List ℕ) (old : ℕ) where
   pub path-turn : (bytes : List ℕ) {b : ℕ} {next : List ℕ} {new : ℕ} → i < length path → b ≡ getD path i 0 → numbers bytes ≡ block t b .references

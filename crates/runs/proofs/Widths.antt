@@ -12,7 +12,7 @@ use Rattle.cache.specs.Sum.{bit}
 use Rattle.cache.specs.Cache.{Cache, wide, direct, emptyRow, withReference, withReferences}
 use Rattle.cache.proofs.Rows.{length-emptyRow, length-withReference, length-withReferences}
 use Rattle.model.specs.Tasks.{Task}
-use Rattle.model.specs.Runs.{Preemption, countAtEnd, lostAtEnd}
+use Rattle.model.specs.Runs.{Preemption, points, countAtEnd, lostAtEnd}
 use Rattle.model.proofs.Events.{Event, Ref, Preempt, disturbed, lost}
 use Rattle.model.proofs.RunEvents.{runEvents, count-events}
 use Rattle.model.proofs.Hits.{lost-events}
@@ -44,15 +44,15 @@ module _ (n : ℕ) (pos : 0 < n) (d : ℕ) where
   broad-count : (ts : List Task) (t : Task) (path : List ℕ) (xs : List Preemption) → countAtEnd (wide (n + d) n) ts t path xs ≡ countAtEnd (direct n) ts t path xs
   broad-count ts t path xs =
       count-events (wide (n + d) n) ts t path xs
-      ∙ ap (λ (r : List ℕ). disturbed (wide (n + d) n) r (runEvents ts t xs 0 path)) (padded-empty n pos d)
-      ∙ events-width (runEvents ts t xs 0 path) (emptyRow (direct n)) (length-emptyRow (direct n))
+      ∙ ap (λ (r : List ℕ). disturbed (wide (n + d) n) r (runEvents ts xs (points t 0 path))) (padded-empty n pos d)
+      ∙ events-width (runEvents ts xs (points t 0 path)) (emptyRow (direct n)) (length-emptyRow (direct n))
       ∙ sym (count-events (direct n) ts t path xs)
 
   broad-lost : (ts : List Task) (t : Task) (path : List ℕ) (xs : List Preemption) → lostAtEnd (wide (n + d) n) ts t path xs ≡ lostAtEnd (direct n) ts t path xs
   broad-lost ts t path xs =
       lost-events (wide (n + d) n) ts t path xs
-      ∙ ap (λ (r : List ℕ). lost (wide (n + d) n) r r (runEvents ts t xs 0 path)) (padded-empty n pos d)
-      ∙ lost-events-width (runEvents ts t xs 0 path) (emptyRow (direct n)) (emptyRow (direct n)) (length-emptyRow (direct n)) (length-emptyRow (direct n))
+      ∙ ap (λ (r : List ℕ). lost (wide (n + d) n) r r (runEvents ts xs (points t 0 path))) (padded-empty n pos d)
+      ∙ lost-events-width (runEvents ts xs (points t 0 path)) (emptyRow (direct n)) (emptyRow (direct n)) (length-emptyRow (direct n)) (length-emptyRow (direct n))
       ∙ sym (lost-events (direct n) ts t path xs)
 
 pub count-width : (n w : ℕ) → 0 < n → n ≤ w → (ts : List Task) (t : Task) (path : List ℕ) (xs : List Preemption)

@@ -73,11 +73,6 @@ abbrev pub ownBoth : Cache → Both → List ℕ → Both
 ownBoth k s [] = s
 ownBoth k s (m ∷ ms) = ownBoth k (withBoth k s m) ms
 
--- those of the blocks of a path
-abbrev pub bothPath : Cache → Task → Both → Path → Both
-bothPath k t s [] = s
-bothPath k t s (b ∷ p) = bothPath k t (ownBoth k s (block t b .references)) p
-
 -- "A preemption makes all references of its path in order on the row as it stands and adds nothing.": in the disturbed run alone
 abbrev pub preemptedBoth : Cache → Both → List ℕ → Both
 preemptedBoth k s fs = both (s .undisturbed) (rowCount (withReferences k (s .disturbed .row) fs) (s .disturbed .count)) (s .lost)

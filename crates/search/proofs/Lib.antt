@@ -1,3 +1,4 @@
 pub mod Raising
-pub mod FirstIn
+pub mod DoneRows
+pub mod BlockLaws
 pub mod FoundNumbers

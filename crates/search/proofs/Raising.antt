@@ -1,5 +1,5 @@
 -- A search that goes over candidates, one family after the other: what is found over the families so far, and over one more.
--- The larger of two numbers is kept, so a candidate of an earlier family is no more than what is found later.
+-- The larger of two costs is kept, so a candidate of an earlier family costs no more than what is found later.
 use mathlib.Core.Path.{_≡_, refl, sym, ap, subst, _∙_}
 use mathlib.Core.Logic.{_⊎_, inl, inr}
 use mathlib.Core.Bool.{Bool, true, false, true≢false}
@@ -11,16 +11,23 @@ use lib.ListN.{length, getD, take, drop}
 use lib.Bits.{bitAnd}
 use lib.Count.{ones}
 use borrow.Author.Tests.{ltb-true, ltb-false}
+use Rattle.cache.specs.declared.blocks.CacheShape.{CacheShape}
+use Rattle.cache.specs.Shape.{shaped}
+use Rattle.cache.specs.Cache.{Cache}
 use Rattle.cache.specs.Sets.{inSet}
+use Rattle.model.specs.Tasks.{Block, Task, block}
+use Rattle.model.specs.Computed.{unmasked}
 use Rattle.rows.specs.Rows.{rowsOf}
 use Rattle.rows.proofs.Parts.{rows-at}
+use Rattle.points.specs.Points.{restOf, leftRows, predecessorsOf}
 use Rattle.pairs.specs.Pairs.{usefulSet}
-use Rattle.pairs.proofs.Meeting.{most-ones}
+use Rattle.pairs.proofs.Meeting.{most-ones, most-few}
+use Rattle.search.specs.declared.Point.{Point}
 use Rattle.search.specs.declared.Found.{Found}
-use Rattle.search.specs.Search.{Candidates, Raised, Below, AtEnd, OfSet, AtLive, OfRow, AtReaching, OfBlock, AtBlock}
+use Rattle.search.specs.Search.{Candidates, Raised, Below, AtEnd, OfSet, AtLive, OfRow, OfDone, pointAfter, AtReaching, OfReaching, AtBefore, OfBefore, fewestDone, AtDone, OfBlock, AtBlock}
 
--- what is found stays where no candidate has a larger number
-raised-kept : (C : Candidates) (a : Found) → ((x : Found) → C x → x .number ≤ a .number) → Raised C a a
+-- what is found stays where no candidate costs more
+raised-kept : (C : Candidates) (a : Found) → ((x : Found) → C x → x .cost ≤ a .cost) → Raised C a a
 raised-kept C a h = record { above = omega arith; most = h; found = inl refl }
 
 pub raised-none : (numberOf : Found → ℕ) (family : ℕ → Candidates) (a : Found) → Raised (Below numberOf 0 family) a a
@@ -32,7 +39,7 @@ module _ (numberOf : Found → ℕ) (family : ℕ → Candidates) (own : (n : �
   raised-more n {a} {b} {c} p q =
       record { above = omega (arith, p .above, q .above); most = λ x s. bound x s (ltb (numberOf x) n) refl; found = place (q .found) (p .found) }
     where
-      bound : (x : Found) → Below numberOf (n + 1) family x → (t : Bool) → ltb (numberOf x) n ≡ t → x .number ≤ c .number
+      bound : (x : Found) → Below numberOf (n + 1) family x → (t : Bool) → ltb (numberOf x) n ≡ t → x .cost ≤ c .cost
       bound x s true e = omega (arith, p .most x (ltb-true (numberOf x) n e, s .1), q .above)
       bound x s false e =
           let last : numberOf x ≡ n = omega (arith, s .0, ltb-false (numberOf x) n e) in
@@ -43,67 +50,149 @@ module _ (numberOf : Found → ℕ) (family : ℕ → Candidates) (own : (n : �
       place (inl e) (inr s) = inr (rw e (omega (arith, s .0), s .1))
       place (inr s) o = let last = own n c s in inr (rw last (omega arith, s))
 
--- ---- a replaced set more: the useful set has n cache blocks in common with it, and that is more than were found, or not
+-- the candidates of two families
+pub raised-both : (C D : Candidates) {a b c : Found} → Raised C a b → Raised D b c → Raised (λ (x : Found). C x ⊎ D x) a c
+raised-both C D {a} {b} {c} p q = record {
+  above = omega (arith, p .above, q .above);
+  most = λ x s. elim s [ inl h ↦ omega (arith, p .most x h, q .above) | inr h ↦ q .most x h ];
+  found = place (q .found) (p .found);
+}
+  where
+    place : (c ≡ b) ⊎ D c → (b ≡ a) ⊎ C b → (c ≡ a) ⊎ (C c ⊎ D c)
+    place (inl e) (inl d) = inl (e ∙ d)
+    place (inl e) (inr s) = inr (inl (rw e s))
+    place (inr s) o = inr (inr s)
 
-module _ (b r l set : ℕ) (sets : List ℕ) where
-  pub end-more : (e : ℕ) {a c d : Found} → Raised (Below (λ x. x .ending) e (AtEnd b r l set sets)) a c → Raised (AtEnd b r l set sets e) c d
-      → Raised (Below (λ x. x .ending) (e + 1) (AtEnd b r l set sets)) a d
-  end-more = raised-more (λ x. x .ending) (AtEnd b r l set sets) (λ e x p. ap (λ (y : Found). y .ending) p)
+-- a family that is there under a condition
+pub raised-where : {P : Type 0} (C : Candidates) {a b : Found} → P → Raised C a b → Raised (λ (x : Found). P × C x) a b
+raised-where C h p = record { above = p .above; most = λ x s. p .most x (s .1); found = elim (p .found) [ inl e ↦ inl e | inr s ↦ inr (h, s) ] }
+
+pub raised-nowhere : {P : Type 0} (C : Candidates) (a : Found) → (P → ⊥) → Raised (λ (x : Found). P × C x) a a
+raised-nowhere {P} C a h = raised-kept (λ (x : Found). P × C x) a (λ x s. absurd (h (s .0)))
+
+-- ---- a replaced set more: the useful set has n cache blocks in common with it, and that costs more than what was found, or not
+
+module _ (p : Point) (l set : ℕ) (sets : List ℕ) where
+  pub end-more : (e : ℕ) {a c d : Found} → Raised (Below (λ x. x .ending) e (AtEnd p l set sets)) a c → Raised (AtEnd p l set sets e) c d
+      → Raised (Below (λ x. x .ending) (e + 1) (AtEnd p l set sets)) a d
+  end-more = raised-more (λ x. x .ending) (AtEnd p l set sets) (λ e x s. ap (λ (y : Found). y .ending) s)
+
+  -- no more than 32 cache blocks are in common
+  pub end-few : (e : ℕ) {n : ℕ} → set < 2 ^ 32 → n ≡ ones (bitAnd set (getD sets e 0)) → n ≤ 32
+  end-few e h count = omega (arith, most-few set (getD sets e 0 ∷ []) h)
 
   module _ (e : ℕ) (a : Found) {new : Found} {n : ℕ} (count : n ≡ ones (bitAnd set (getD sets e 0))) where
-    pub end-raised : a .number < n → new ≡ record { block = b; reaching = r; live = l; ending = e; number = n } → Raised (AtEnd b r l set sets e) a new
+    pub end-raised : a .cost < n + 1 → new ≡ record { point = p; live = l; ending = e; cost = n + 1 } → Raised (AtEnd p l set sets e) a new
     end-raised h q =
-        let new-number : new .number ≡ n = ap (λ (y : Found). y .number) q in
+        let new-cost : new .cost ≡ n + 1 = ap (λ (y : Found). y .cost) q in
         record {
           above = omega arith;
-          most = λ x p. omega (arith, ap (λ (y : Found). y .number) p);
-          found = inr (q ∙ ap (λ (m : ℕ). record { block = b; reaching = r; live = l; ending = e; number = m }) count);
+          most = λ x s. omega (arith, ap (λ (y : Found). y .cost) s);
+          found = inr (q ∙ ap (λ (m : ℕ). record { point = p; live = l; ending = e; cost = m + 1 }) count);
         }
 
-    pub end-kept : n ≤ a .number → new ≡ a → Raised (AtEnd b r l set sets e) a new
-    end-kept h q = rw q (raised-kept (AtEnd b r l set sets e) a (λ x p. omega (arith, ap (λ (y : Found). y .number) p)))
+    pub end-kept : n + 1 ≤ a .cost → new ≡ a → Raised (AtEnd p l set sets e) a new
+    end-kept h q = rw q (raised-kept (AtEnd p l set sets e) a (λ x s. omega (arith, ap (λ (y : Found). y .cost) s)))
 
   -- a set of too few cache blocks
-  pub set-skipped : (a : Found) → set < 2 ^ 32 → ones set ≤ a .number → Raised (OfSet b r l set sets) a a
+  pub set-skipped : (a : Found) → set < 2 ^ 32 → ones set < a .cost → Raised (OfSet p l set sets) a a
   set-skipped a w h =
-      raised-kept (OfSet b r l set sets) a
-      (λ x p. omega (arith, ap (λ (y : Found). y .number) (p .1), most-ones set (getD sets (x .ending) 0 ∷ []) w))
+      raised-kept (OfSet p l set sets) a
+      (λ x s. omega (arith, ap (λ (y : Found). y .cost) (s .1), most-ones set (getD sets (x .ending) 0 ∷ []) w))
 
 -- ---- a row more: the row numbered k was lent as a part from w k to w k + w
 
 row-lent : (w n k : ℕ) (l : List ℕ) → k < n → getD (rowsOf w n l) k [] ≡ take (w * k + w - w * k) (drop (w * k) l)
 row-lent w n k l h = let s : w * k + w - w * k ≡ w = omega arith in rows-at w n k l h ∙ ap (λ (m : ℕ). take m (drop (w * k) l)) (sym s)
 
-module _ (b w lived : ℕ) (live : List ℕ) where
-  pub live-more : (r : ℕ) (row sets : List ℕ) (k : ℕ) {set : ℕ} {a c d : Found} → k < lived → set ≡ usefulSet row (take (w * k + w - w * k) (drop (w * k) live))
-      → Raised (Below (λ x. x .live) k (AtLive b r row (rowsOf w lived live) sets)) a c → Raised (OfSet b r k set sets) c d
-      → Raised (Below (λ x. x .live) (k + 1) (AtLive b r row (rowsOf w lived live) sets)) a d
-  live-more r row sets k h e p q =
-      raised-more (λ x. x .live) (AtLive b r row (rowsOf w lived live) sets) (λ l x s. ap (λ (y : Found). y .live) (s .1)) k p
-      (rw (row-lent w lived k live h, ← e) q)
+pub live-more : (p : Point) (w lived : ℕ) (live row sets : List ℕ) (k : ℕ) {set : ℕ} {a c d : Found} → k < lived → set ≡ usefulSet row (take (w * k + w - w * k) (drop (w * k) live))
+    → Raised (Below (λ x. x .live) k (AtLive p row (rowsOf w lived live) sets)) a c → Raised (OfSet p k set sets) c d
+    → Raised (Below (λ x. x .live) (k + 1) (AtLive p row (rowsOf w lived live) sets)) a d
+live-more p w lived live row sets k h e so-far q =
+    raised-more (λ x. x .live) (AtLive p row (rowsOf w lived live) sets) (λ l x s. ap (λ (y : Found). y .live) (s .1)) k so-far
+    (rw (row-lent w lived k live h, ← e) q)
 
-  -- the live rows and the end rows are as wide as the row that was lent
-  pub reaching-more : (ended : ℕ) (ends : List ℕ) (reached : ℕ) (reaching : List ℕ) (k : ℕ) {a c d : Found} → k < reached → length (take (w * k + w - w * k) (drop (w * k) reaching)) ≡ w
-      → Raised (Below (λ x. x .reaching) k (AtReaching b (rowsOf w reached reaching) (rowsOf w lived live) (rowsOf w ended ends))) a c
-      → Raised (OfRow b k (take (w * k + w - w * k) (drop (w * k) reaching)) (rowsOf (length (take (w * k + w - w * k) (drop (w * k) reaching))) lived live)
-      (rowsOf (length (take (w * k + w - w * k) (drop (w * k) reaching))) ended ends)) c d
-      → Raised (Below (λ x. x .reaching) (k + 1) (AtReaching b (rowsOf w reached reaching) (rowsOf w lived live) (rowsOf w ended ends))) a d
-  reaching-more ended ends reached reaching k {c = c} {d} h long p q =
-      raised-more (λ x. x .reaching) (AtReaching b (rowsOf w reached reaching) (rowsOf w lived live) (rowsOf w ended ends)) (λ r x s. ap (λ (y : Found). y .reaching) (s .1 .1)) k p
-      (rw (row-lent w reached k reaching h)
-      (subst (λ (n : ℕ). Raised (OfRow b k (take (w * k + w - w * k) (drop (w * k) reaching)) (rowsOf n lived live) (rowsOf n ended ends)) c d) long q))
+-- ---- a row before the block
 
--- ---- a block more, where it is in the set and where not
+-- the row of a point, as it was lent, where the live rows and the end rows are as wide as it
+pub row-as : (p : Point) (w lived : ℕ) (live : List ℕ) (ended : ℕ) (ends : List ℕ) {part row : List ℕ} {a c : Found} → part ≡ row → length part ≡ w
+    → Raised (OfRow p part (rowsOf (length part) lived live) (rowsOf (length part) ended ends)) a c → Raised (OfRow p row (rowsOf w lived live) (rowsOf w ended ends)) a c
+row-as p w lived live ended ends {part} {a = a} {c} e long q =
+    subst (λ (r : List ℕ). Raised (OfRow p r (rowsOf w lived live) (rowsOf w ended ends)) a c) e
+    (subst (λ (n : ℕ). Raised (OfRow p part (rowsOf n lived live) (rowsOf n ended ends)) a c) long q)
 
-module _ (set : ℕ) (rs ls : ℕ → List (List ℕ)) (fs : List (List ℕ)) (k : ℕ) {a c : Found} (so-far : Raised (Below (λ x. x .block) k (AtBlock set rs ls fs)) a c) where
-  more : {d : Found} → Raised (AtBlock set rs ls fs k) c d → Raised (Below (λ x. x .block) (k + 1) (AtBlock set rs ls fs)) a d
-  more = raised-more (λ x. x .block) (AtBlock set rs ls fs) (λ b x s. ap (λ (y : Found). y .block) (s .1 .1 .1 .1)) k so-far
+-- the row before its block, likewise
+pub done-as : (shape : CacheShape) (ms : List ℕ) (p : Point) (w lived : ℕ) (live : List ℕ) (ended : ℕ) (ends : List ℕ) {part row : List ℕ} {a c : Found} → part ≡ row
+    → length part ≡ w → Raised (OfDone (shaped (length part) shape) ms p part (rowsOf (length part) lived live) (rowsOf (length part) ended ends)) a c
+    → Raised (OfDone (shaped w shape) ms p row (rowsOf w lived live) (rowsOf w ended ends)) a c
+done-as shape ms p w lived live ended ends {part} {a = a} {c} e long q =
+    subst (λ (r : List ℕ). Raised (OfDone (shaped w shape) ms p r (rowsOf w lived live) (rowsOf w ended ends)) a c) e
+    (subst (λ (n : ℕ). Raised (OfDone (shaped n shape) ms p part (rowsOf n lived live) (rowsOf n ended ends)) a c) long q)
 
-  pub block-more : {d : Found} {r l : List (List ℕ)} → inSet set k ≡ true → r ≡ rs k → l ≡ ls k
-      → Raised (OfBlock k r l fs) c d → Raised (Below (λ x. x .block) (k + 1) (AtBlock set rs ls fs)) a d
-  block-more {d} {r} {l} h e f q =
-      let here : Raised (OfBlock k (rs k) (ls k) fs) c d = rw (← e, ← f) q in
-      more (record { above = here .above; most = λ x s. here .most x (s .1); found = elim (here .found) [ inl z ↦ inl z | inr s ↦ inr (h, s) ] })
+pub reaching-more : (shape : CacheShape) (ms : List ℕ) (b d before w reached : ℕ) (reaching : List ℕ) (lived : ℕ) (live : List ℕ) (ended : ℕ) (ends : List ℕ) (k : ℕ) {a c e : Found}
+    → k < reached → length (take (w * k + w - w * k) (drop (w * k) reaching)) ≡ w
+    → Raised (Below (λ x. x .point .reaching) k (AtReaching (shaped w shape) ms b d before (rowsOf w reached reaching) (rowsOf w lived live) (rowsOf w ended ends))) a c
+    → Raised (OfDone (shaped (length (take (w * k + w - w * k) (drop (w * k) reaching))) shape) ms (pointAfter b d before k) (take (w * k + w - w * k) (drop (w * k) reaching))
+    (rowsOf (length (take (w * k + w - w * k) (drop (w * k) reaching))) lived live) (rowsOf (length (take (w * k + w - w * k) (drop (w * k) reaching))) ended ends)) c e
+    → Raised (Below (λ x. x .point .reaching) (k + 1) (AtReaching (shaped w shape) ms b d before (rowsOf w reached reaching) (rowsOf w lived live) (rowsOf w ended ends))) a e
+reaching-more shape ms b d before w reached reaching lived live ended ends k h long so-far q =
+    raised-more (λ x. x .point .reaching) (AtReaching (shaped w shape) ms b d before (rowsOf w reached reaching) (rowsOf w lived live) (rowsOf w ended ends))
+    (λ r x s. ap (λ (y : Found). y .point .reaching) (s .1 .1)) k so-far
+    (done-as shape ms (pointAfter b d before k) w lived live ended ends (sym (row-lent w reached k reaching h)) long q)
 
-  pub block-out : inSet set k ≡ false → Raised (Below (λ x. x .block) (k + 1) (AtBlock set rs ls fs)) a c
-  block-out h = more (raised-kept (AtBlock set rs ls fs k) c (λ x s. absurd (true≢false (sym (s .0) ∙ h))))
+-- ---- a block before it more, where it is in the set and where not
+
+module _ (k : Cache) (ms : List ℕ) (b d set : ℕ) (rs : ℕ → List (List ℕ)) (ls fs : List (List ℕ)) (n : ℕ) {a c : Found}
+    (so-far : Raised (Below (λ x. x .point .before) n (AtBefore k ms b d set rs ls fs)) a c) where
+  more-before : {e : Found} → Raised (AtBefore k ms b d set rs ls fs n) c e → Raised (Below (λ x. x .point .before) (n + 1) (AtBefore k ms b d set rs ls fs)) a e
+  more-before = raised-more (λ x. x .point .before) (AtBefore k ms b d set rs ls fs) (λ m x s. ap (λ (y : Found). y .point .before) (s .1 .1 .1 .1)) n so-far
+
+  pub before-more : {e : Found} {r : List (List ℕ)} → inSet set n ≡ true → r ≡ rs n → Raised (OfReaching k ms b d n r ls fs) c e
+      → Raised (Below (λ x. x .point .before) (n + 1) (AtBefore k ms b d set rs ls fs)) a e
+  before-more {e} {r} h q s = more-before (raised-where (OfReaching k ms b d n (rs n) ls fs) h (subst (λ (r : List (List ℕ)). Raised (OfReaching k ms b d n r ls fs) c e) q s))
+
+  pub before-out : inSet set n ≡ false → Raised (Below (λ x. x .point .before) (n + 1) (AtBefore k ms b d set rs ls fs)) a c
+  before-out h = more-before (raised-nowhere (OfReaching k ms b d n (rs n) ls fs) c (λ s. true≢false (sym s ∙ h)))
+
+-- ---- a number of references done more
+
+-- the point of a candidate
+point-is : (k : Cache) (ms : List ℕ) (b d set blocks : ℕ) (rs : ℕ → List (List ℕ)) (ls fs : List (List ℕ)) (x : Found) → OfBefore k ms b d set blocks rs ls fs x
+    → (x .point .block ≡ b) × (x .point .done ≡ d)
+point-is k ms b d set blocks rs ls fs x (inl s) = (ap (λ (y : Found). y .point .block) (s .1 .1 .1), ap (λ (y : Found). y .point .done) (s .1 .1 .1))
+point-is k ms b d set blocks rs ls fs x (inr s) = (ap (λ (y : Found). y .point .block) (s .1 .1 .1 .1 .1), ap (λ (y : Found). y .point .done) (s .1 .1 .1 .1 .1))
+
+module _ (k : Cache) (ms : List ℕ) (b set blocks : ℕ) (rs : ℕ → List (List ℕ)) (ls fs : List (List ℕ)) where
+  -- none is done yet that may be
+  pub done-first : (n : ℕ) (a : Found) → n ≡ fewestDone (length ms) → Raised (Below (λ x. x .point .done) n (AtDone k ms b set blocks rs ls fs)) a a
+  done-first n a e = raised-kept (Below (λ x. x .point .done) n (AtDone k ms b set blocks rs ls fs)) a (λ x s. absurd (omega (arith, s .0, s .1 .0)))
+
+  pub done-more : (d : ℕ) {a c e : Found} → fewestDone (length ms) ≤ d → Raised (Below (λ x. x .point .done) d (AtDone k ms b set blocks rs ls fs)) a c
+      → Raised (OfBefore k ms b d set blocks rs (leftRows (restOf k ms d) ls) fs) c e → Raised (Below (λ x. x .point .done) (d + 1) (AtDone k ms b set blocks rs ls fs)) a e
+  done-more d h so-far q =
+      raised-more (λ x. x .point .done) (AtDone k ms b set blocks rs ls fs) (λ n x s. point-is k ms b n set blocks rs (leftRows (restOf k ms n) ls) fs x (s .1) .1) d so-far
+      (raised-where (OfBefore k ms b d set blocks rs (leftRows (restOf k ms d) ls) fs) h q)
+
+-- ---- a block more, where it is unmasked and where not
+
+module _ (k : Cache) (t : Task) (rs ls : ℕ → List (List ℕ)) (fs : List (List ℕ)) (b : ℕ) {a c : Found} (so-far : Raised (Below (λ x. x .point .block) b (AtBlock k t rs ls fs)) a c) where
+  abbrev here : List (List ℕ) → Candidates
+  here l = OfBlock k (block t b .references) b (predecessorsOf t b) (length t) rs l fs
+
+  more-blocks : {e : Found} → Raised (AtBlock k t rs ls fs b) c e → Raised (Below (λ x. x .point .block) (b + 1) (AtBlock k t rs ls fs)) a e
+  more-blocks =
+      raised-more (λ x. x .point .block) (AtBlock k t rs ls fs)
+      (λ n x s. point-is k (block t n .references) n (x .point .done) (predecessorsOf t n) (length t) rs (leftRows (restOf k (block t n .references) (x .point .done)) (ls n)) fs x (s .1 .1 .1) .0)
+      b so-far
+
+  pub block-more : {e : Found} {l : List (List ℕ)} {ms : List ℕ} {set blocks : ℕ} → unmasked t b ≡ true → l ≡ ls b → ms ≡ block t b .references → set ≡ predecessorsOf t b
+      → blocks ≡ length t → Raised (OfBlock k ms b set blocks rs l fs) c e → Raised (Below (λ x. x .point .block) (b + 1) (AtBlock k t rs ls fs)) a e
+  block-more {e} {l} {ms} {set} {blocks} h el em es eb q =
+      more-blocks (raised-where (here (ls b)) h
+      (subst (λ (r : List (List ℕ)). Raised (here r) c e) el
+      (subst (λ (m : List ℕ). Raised (OfBlock k m b (predecessorsOf t b) (length t) rs l fs) c e) em
+      (subst (λ (s : ℕ). Raised (OfBlock k ms b s (length t) rs l fs) c e) es
+      (subst (λ (n : ℕ). Raised (OfBlock k ms b set n rs l fs) c e) eb q)))))
+
+  pub block-out : unmasked t b ≡ false → Raised (Below (λ x. x .point .block) (b + 1) (AtBlock k t rs ls fs)) a c
+  block-out h = more-blocks (raised-nowhere (here (ls b)) c (λ s. true≢false (sym s ∙ h)))

@@ -1,71 +1,126 @@
--- The search for the rows that make a pair number. Definitions only.
+-- The search for the point and the rows that make a pair number. Definitions only.
 use mathlib.Core.Path.{_≡_}
 use mathlib.Core.Logic.{_⊎_}
-use mathlib.Core.Bool.{true, cond}
+use mathlib.Core.Bool.{true, false}
 use mathlib.Core.List.{List, []}
-use Prim.Native.Nat.{ℕ, zero, suc, _≤_, _<_}
-use lib.ListN.{length, getD}
+use Prim.Native.Nat.{ℕ, zero, suc, _+_, _*_, _≤_, _<_}
+use lib.ListN.{length, getD, take}
 use lib.Bits.{bitAnd}
 use lib.Count.{ones}
+use Rattle.cache.specs.Cache.{Cache, Row, emptyRow, withReferences}
 use Rattle.cache.specs.Sets.{inSet}
+use Rattle.model.specs.Tasks.{Block, Task, block}
+use Rattle.model.specs.Computed.{unmasked}
+use Rattle.rows.specs.Rows.{Width}
+use Rattle.points.specs.Points.{restOf, leftRows, predecessorsOf}
 use Rattle.pairs.specs.Pairs.{usefulSet, replacedSets}
+use Rattle.search.specs.declared.Point.{Point}
 use Rattle.search.specs.declared.Found.{Found}
 
 -- candidates: what a search may answer
 abbrev pub Candidates : Type 1
 Candidates = Found → Type 0
 
--- `new` is `old` or a candidate, and neither `old` nor a candidate has a larger number
+-- `new` is `old` or a candidate, and neither `old` nor a candidate has a larger cost
 pub record Raised (C : Candidates) (old new : Found) : Type 0 where
-  pub above : old .number ≤ new .number
-  pub most : (x : Found) → C x → x .number ≤ new .number
+  pub above : old .cost ≤ new .cost
+  pub most : (x : Found) → C x → x .cost ≤ new .cost
   pub found : (new ≡ old) ⊎ C new
 
 -- the candidates of the families numbered below n, where each tells the number of its family
 abbrev pub Below : (Found → ℕ) → ℕ → (ℕ → Candidates) → Candidates
 Below numberOf n family x = (numberOf x < n) × family (numberOf x) x
 
--- the useful set of the rows numbered r and l of block b with the set numbered e, which an end row replaces: what they have in common; and with each
--- such set
-abbrev pub AtEnd : ℕ → ℕ → ℕ → ℕ → List ℕ → ℕ → Candidates
-AtEnd b r l set sets e x = x ≡ record { block = b; reaching = r; live = l; ending = e; number = ones (bitAnd set (getD sets e 0)) }
+-- ---- the rows at a point
 
-abbrev pub OfSet : ℕ → ℕ → ℕ → ℕ → List ℕ → Candidates
-OfSet b r l set sets = Below (λ x. x .ending) (length sets) (AtEnd b r l set sets)
+-- the useful set of the row of the point p and of the live row numbered l with the set numbered e, which an end row replaces: the cost is one more
+-- than what they have in common; and with each such set
+abbrev pub AtEnd : Point → ℕ → ℕ → List ℕ → ℕ → Candidates
+AtEnd p l set sets e x = x ≡ record { point = p; live = l; ending = e; cost = ones (bitAnd set (getD sets e 0)) + 1 }
 
--- the reaching row numbered r with the live row numbered l, where the end rows replace these sets in it; and with each live row
-abbrev pub AtLive : ℕ → ℕ → List ℕ → List (List ℕ) → List ℕ → ℕ → Candidates
-AtLive b r row ls sets l = OfSet b r l (usefulSet row (getD ls l [])) sets
+abbrev pub OfSet : Point → ℕ → ℕ → List ℕ → Candidates
+OfSet p l set sets = Below (λ x. x .ending) (length sets) (AtEnd p l set sets)
 
-abbrev pub OfLive : ℕ → ℕ → List ℕ → List (List ℕ) → List ℕ → Candidates
-OfLive b r row ls sets = Below (λ x. x .live) (length ls) (AtLive b r row ls sets)
+-- the row of the point with the live row numbered l, where the end rows replace these sets in it; and with each live row
+abbrev pub AtLive : Point → Row → List Row → List ℕ → ℕ → Candidates
+AtLive p row ls sets l = OfSet p l (usefulSet row (getD ls l [])) sets
 
--- the reaching row numbered r with each live row and each of the end rows fs; and each reaching row
-abbrev pub OfRow : ℕ → ℕ → List ℕ → List (List ℕ) → List (List ℕ) → Candidates
-OfRow b r row ls fs = OfLive b r row ls (replacedSets row fs)
+abbrev pub OfLive : Point → Row → List Row → List ℕ → Candidates
+OfLive p row ls sets = Below (λ x. x .live) (length ls) (AtLive p row ls sets)
 
-abbrev pub AtReaching : ℕ → List (List ℕ) → List (List ℕ) → List (List ℕ) → ℕ → Candidates
-AtReaching b rs ls fs r = OfRow b r (getD rs r []) ls fs
+-- the row of the point with each live row and each of the end rows fs
+abbrev pub OfRow : Point → Row → List Row → List Row → Candidates
+OfRow p row ls fs = OfLive p row ls (replacedSets row fs)
 
-abbrev pub OfBlock : ℕ → List (List ℕ) → List (List ℕ) → List (List ℕ) → Candidates
-OfBlock b rs ls fs = Below (λ x. x .reaching) (length rs) (AtReaching b rs ls fs)
+-- ---- the rows before the block of a point, which refers to ms
 
--- block b if it is in the set, given the reaching and the live rows of each block; and each block below `blocks`
-abbrev pub AtBlock : ℕ → (ℕ → List (List ℕ)) → (ℕ → List (List ℕ)) → List (List ℕ) → ℕ → Candidates
-AtBlock set rs ls fs b x = (inSet set b ≡ true) × OfBlock b (rs b) (ls b) fs x
+-- the point p with the row before its block
+abbrev pub OfDone : Cache → List ℕ → Point → Row → List Row → List Row → Candidates
+OfDone k ms p row ls fs = OfRow p (withReferences k row (take (p .done) ms)) ls fs
 
-abbrev pub OfTask : ℕ → (ℕ → List (List ℕ)) → (ℕ → List (List ℕ)) → List (List ℕ) → ℕ → Candidates
-OfTask set rs ls fs blocks = Below (λ x. x .block) blocks (AtBlock set rs ls fs)
+-- the point of block b with d references done, where it is the first of a path; and after the block a, with the reaching row of a numbered r
+abbrev pub firstPoint : ℕ → ℕ → Point
+firstPoint b d = record { block = b; first = true; before = 0; reaching = 0; done = d }
 
--- the first of n blocks from b on that is in the set, or 0
-abbrev pub firstIn : ℕ → ℕ → ℕ → ℕ
-firstIn set zero b = 0
-firstIn set (suc n) b = cond (inSet set b) b (firstIn set n (suc b))
+abbrev pub pointAfter : ℕ → ℕ → ℕ → ℕ → Point
+pointAfter b d a r = record { block = b; first = false; before = a; reaching = r; done = d }
 
--- what the search begins with: the first rows of the first block of the set
-abbrev pub start : ℕ → ℕ → Found
-start set blocks = record { block = firstIn set blocks 0; reaching = 0; live = 0; ending = 0; number = 0 }
+-- the reaching row numbered r of the block a; and each of its reaching rows rs
+abbrev pub AtReaching : Cache → List ℕ → ℕ → ℕ → ℕ → List Row → List Row → List Row → ℕ → Candidates
+AtReaching k ms b d a rs ls fs r = OfDone k ms (pointAfter b d a r) (getD rs r []) ls fs
 
--- what it answers: a candidate with the largest number, or its start where no candidate has a number above 0
-abbrev pub Searched : ℕ → (ℕ → List (List ℕ)) → (ℕ → List (List ℕ)) → List (List ℕ) → ℕ → Found → Type 0
-Searched set rs ls fs blocks = Raised (OfTask set rs ls fs blocks) (start set blocks)
+abbrev pub OfReaching : Cache → List ℕ → ℕ → ℕ → ℕ → List Row → List Row → List Row → Candidates
+OfReaching k ms b d a rs ls fs = Below (λ x. x .point .reaching) (length rs) (AtReaching k ms b d a rs ls fs)
+
+-- the block a if it is in the set, given the reaching rows of each block; and each block below `blocks`
+abbrev pub AtBefore : Cache → List ℕ → ℕ → ℕ → ℕ → (ℕ → List Row) → List Row → List Row → ℕ → Candidates
+AtBefore k ms b d set rs ls fs a x = (inSet set a ≡ true) × OfReaching k ms b d a (rs a) ls fs x
+
+abbrev pub OfPredecessors : Cache → List ℕ → ℕ → ℕ → ℕ → ℕ → (ℕ → List Row) → List Row → List Row → Candidates
+OfPredecessors k ms b d set blocks rs ls fs = Below (λ x. x .point .before) blocks (AtBefore k ms b d set rs ls fs)
+
+-- the empty row before block 0
+abbrev pub OfFirst : Cache → List ℕ → ℕ → ℕ → List Row → List Row → Candidates
+OfFirst k ms b d ls fs x = (b ≡ 0) × OfDone k ms (firstPoint b d) (emptyRow k) ls fs x
+
+abbrev pub OfBefore : Cache → List ℕ → ℕ → ℕ → ℕ → ℕ → (ℕ → List Row) → List Row → List Row → Candidates
+OfBefore k ms b d set blocks rs ls fs x = OfFirst k ms b d ls fs x ⊎ OfPredecessors k ms b d set blocks rs ls fs x
+
+-- ---- the points of a task
+
+-- the fewest references done at a point of a block that has so many
+abbrev pub fewestDone : ℕ → ℕ
+fewestDone zero = 0
+fewestDone (suc n) = 1
+
+-- the points of block b where d references are done, given the live rows of the block; and each number of them that may be done
+abbrev pub AtDone : Cache → List ℕ → ℕ → ℕ → ℕ → (ℕ → List Row) → List Row → List Row → ℕ → Candidates
+AtDone k ms b set blocks rs ls fs d x = (fewestDone (length ms) ≤ d) × OfBefore k ms b d set blocks rs (leftRows (restOf k ms d) ls) fs x
+
+abbrev pub OfBlock : Cache → List ℕ → ℕ → ℕ → ℕ → (ℕ → List Row) → List Row → List Row → Candidates
+OfBlock k ms b set blocks rs ls fs = Below (λ x. x .point .done) (length ms + 1) (AtDone k ms b set blocks rs ls fs)
+
+-- block b of the task if it is unmasked, given the reaching and the live rows of each block; and each block
+abbrev pub AtBlock : Cache → Task → (ℕ → List Row) → (ℕ → List Row) → List Row → ℕ → Candidates
+AtBlock k t rs ls fs b x = (unmasked t b ≡ true) × OfBlock k (block t b .references) b (predecessorsOf t b) (length t) rs (ls b) fs x
+
+abbrev pub OfTask : Cache → Task → (ℕ → List Row) → (ℕ → List Row) → List Row → Candidates
+OfTask k t rs ls fs = Below (λ x. x .point .block) (length t) (AtBlock k t rs ls fs)
+
+-- what the search begins with: no candidate, of no cost
+abbrev pub noneFound : Found
+noneFound = record { point = firstPoint 0 0; live = 0; ending = 0; cost = 0 }
+
+-- what it answers: a candidate with the largest cost, where there is one
+abbrev pub Searched : Cache → Task → (ℕ → List Row) → (ℕ → List Row) → List Row → Found → Type 0
+Searched k t rs ls fs = Raised (OfTask k t rs ls fs) noneFound
+
+-- ---- what the code is lent
+
+-- room for 32 live rows of a block and 32 end rows of a task, of w numbers each, and how many of them there are
+pub record RowLists (w : ℕ) (live : List ℕ) (lived : ℕ) (ends : List ℕ) (ended : ℕ) : Type 0 where
+  pub width : Width w
+  pub liveLong : length live ≡ 32 * w
+  pub liveFew : lived ≤ 32
+  pub endsLong : length ends ≡ 32 * w
+  pub endsFew : ended ≤ 32

@@ -1,20 +1,20 @@
--- The test of a path agrees with `Complete`, that of all paths of a run with `AllComplete`, and that of all its points with `AvoidsMasked`; so
--- checks 13 and 16 fail just where their tests do. Each is an induction on the path or on the list of preemptions.
+-- The test of a path agrees with `Complete`, that of all paths of a run with `AllComplete`, and those of all its points with `RightDone` and
+-- `AvoidsMasked`; so checks 13 and 16 fail just where their tests do. Each is an induction on the path or on the list of preemptions.
 use mathlib.Core.Path.{_≡_, refl, subst}
 use mathlib.Core.Logic.{_↔_}
 use mathlib.Core.Bool.{Bool, true, false≢true}
 use mathlib.Core.List.{List, [], _∷_}
 use Prim.Native.Nat.{ℕ}
-use lib.Dec.{eqb, ltb}
+use lib.Dec.{eqb, ltb, leb}
 use lib.ListN.{length, getD}
-use borrow.Author.Tests.{eqb-true, eq-eqb, ltb-true, lt-ltb}
+use borrow.Author.Tests.{eqb-true, eq-eqb, ltb-true, lt-ltb, leb-true, le-leb}
 use Rattle.model.specs.Lists.{mem, Each}
-use Rattle.model.specs.Tasks.{Block, Task, block, Unmasked, end, PathFrom, stay, step, Complete, task}
+use Rattle.model.specs.Tasks.{Block, Task, block, Unmasked, Done, end, PathFrom, stay, step, Complete, task}
 use Rattle.model.specs.Runs.{Preemption}
 use Rattle.model.proofs.Membership.{both-left, both-right}
 use Rattle.model.proofs.Most.{unmasked-exact}
-use Rattle.sheet.specs.Sheet.{SheetRun, AllComplete, AvoidsMasked}
-use Rattle.sheet.specs.Parsed.{leadsToEnd, completePath, eachPasses, completeBy, completeAll, unmaskedPoint, unmaskedAll}
+use Rattle.sheet.specs.Sheet.{SheetRun, AllComplete, RightDone, AvoidsMasked}
+use Rattle.sheet.specs.Parsed.{leadsToEnd, completePath, eachPasses, completeBy, completeAll, rightDone, donePoint, doneAll, unmaskedPoint, unmaskedAll}
 
 leads-path : (t : Task) (b : ℕ) (path : List ℕ) → leadsToEnd t b path ≡ true → PathFrom t b path (end t)
 leads-path t b [] e =
@@ -66,7 +66,19 @@ all-complete ts r = (
     each : (eachPasses (completeBy ts) (r .preemptions) ≡ true) ↔ Each (λ (x : Preemption). Complete (task ts (x .by)) (x .path)) (r .preemptions)
     each = each-exact (λ (x : Preemption). Complete (task ts (x .by)) (x .path)) (completeBy ts) (λ x. complete-exact (task ts (x .by)) (x .path)) (r .preemptions)
 
+pub right-done-exact : (ms : List ℕ) (d : ℕ) → (rightDone ms d ≡ true) ↔ Done ms d
+right-done-exact [] d = (eqb-true d 0, eq-eqb d 0)
+right-done-exact (m ∷ ms) d = (
+  λ e. (leb-true 1 d (both-left (leb 1 d) _ e), leb-true d (length (m ∷ ms)) (both-right (leb 1 d) _ e)),
+  λ h. rw (le-leb 1 d (h .0), le-leb d (length (m ∷ ms)) (h .1)),
+)
+
+pub all-done : (ts : List Task) (r : SheetRun) → (doneAll ts r ≡ true) ↔ RightDone ts r
+all-done ts r =
+    each-exact (λ (x : Preemption). Done (block (task ts (r .p)) (getD (r .path) (x .position) 0) .references) (x .done)) (donePoint (task ts (r .p)) (r .path))
+    (λ x. right-done-exact (block (task ts (r .p)) (getD (r .path) (x .position) 0) .references) (x .done)) (r .preemptions)
+
 pub all-unmasked : (ts : List Task) (r : SheetRun) → (unmaskedAll ts r ≡ true) ↔ AvoidsMasked ts r
 all-unmasked ts r =
-    each-exact (λ (x : Preemption). Unmasked (task ts (r .p)) (getD (r .path) (x .point) 0)) (unmaskedPoint (task ts (r .p)) (r .path))
-    (λ x. unmasked-exact (task ts (r .p)) (getD (r .path) (x .point) 0)) (r .preemptions)
+    each-exact (λ (x : Preemption). Unmasked (task ts (r .p)) (getD (r .path) (x .position) 0)) (unmaskedPoint (task ts (r .p)) (r .path))
+    (λ x. unmasked-exact (task ts (r .p)) (getD (r .path) (x .position) 0)) (r .preemptions)

@@ -47,25 +47,27 @@ block-at s r h i l =
 -- ---- a preemption that begins at `at`
 
 pub record PreemptionPlaces (s : List ℕ) (at : ℕ) (x : Preemption) (xs : List Preemption) : Type 0 where
-  pub point-at : getD s at 0 ≡ x .point
-  pub task-at : getD s (at + 1) 0 ≡ x .by
-  pub long-at : getD s (at + 2) 0 ≡ length (x .path)
-  pub path-at : take (length (x .path)) (drop (at + 3) s) ≡ x .path
-  pub within : at + 3 + length (x .path) ≤ length s
-  pub rest-at : drop (at + 3 + length (x .path)) s ≡ preemptionNumbers xs
+  pub position-at : getD s at 0 ≡ x .position
+  pub done-at : getD s (at + 1) 0 ≡ x .done
+  pub task-at : getD s (at + 2) 0 ≡ x .by
+  pub long-at : getD s (at + 3) 0 ≡ length (x .path)
+  pub path-at : take (length (x .path)) (drop (at + 4) s) ≡ x .path
+  pub within : at + 4 + length (x .path) ≤ length s
+  pub rest-at : drop (at + 4 + length (x .path)) s ≡ preemptionNumbers xs
 
 pub preemption-places : (s : List ℕ) (at : ℕ) (x : Preemption) (xs : List Preemption) → drop at s ≡ preemptionNumbers (x ∷ xs) → PreemptionPlaces s at x xs
 preemption-places s at x xs e =
     let nums = preemptionNumbers xs in
     let z : at + 0 ≡ at = omega arith in
-    let third : drop (at + 3) s ≡ x .path ++ nums = sym (drop-drop 3 at s) ∙ ap (drop 3) e in
+    let fourth : drop (at + 4) s ≡ x .path ++ nums = sym (drop-drop 4 at s) ∙ ap (drop 4) e in
     record {
-      point-at = ap (λ i. getD s i 0) (sym z) ∙ sym (getD-drop at s 0 0) ∙ ap (λ l. getD l 0 0) e;
-      task-at = sym (getD-drop at s 1 0) ∙ ap (λ l. getD l 1 0) e;
-      long-at = sym (getD-drop at s 2 0) ∙ ap (λ l. getD l 2 0) e;
-      path-at = ap (take (length (x .path))) third ∙ take-at (x .path) nums (length (x .path)) refl;
+      position-at = ap (λ i. getD s i 0) (sym z) ∙ sym (getD-drop at s 0 0) ∙ ap (λ l. getD l 0 0) e;
+      done-at = sym (getD-drop at s 1 0) ∙ ap (λ l. getD l 1 0) e;
+      task-at = sym (getD-drop at s 2 0) ∙ ap (λ l. getD l 2 0) e;
+      long-at = sym (getD-drop at s 3 0) ∙ ap (λ l. getD l 3 0) e;
+      path-at = ap (take (length (x .path))) fourth ∙ take-at (x .path) nums (length (x .path)) refl;
       within = omega (arith, ap length e, length-drop at s, length-append (x .path) nums);
-      rest-at = sym (drop-drop (length (x .path)) (at + 3) s) ∙ ap (drop (length (x .path))) third ∙ drop-at (x .path) nums (length (x .path)) refl;
+      rest-at = sym (drop-drop (length (x .path)) (at + 4) s) ∙ ap (drop (length (x .path))) fourth ∙ drop-at (x .path) nums (length (x .path)) refl;
     }
 
 -- what is left of the list begins with a preemption at `at`

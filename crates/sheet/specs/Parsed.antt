@@ -1,6 +1,6 @@
--- The run that a sheet is the numbers of, whether its paths are complete and whether it avoids masked blocks, computed; proofs show that
--- they agree with `Sheet`.
-use mathlib.Core.Bool.{Bool, true, false, not, _&&_, cond}
+-- The run that a sheet is the numbers of, whether its paths are complete, whether the numbers of references done are right and whether it avoids
+-- masked blocks, computed; proofs show that they agree with `Sheet`.
+use mathlib.Core.Bool.{Bool, true, false, not, _&&_, _||_, cond}
 use mathlib.Core.List.{List, [], _∷_}
 use Prim.Native.Nat.{ℕ, zero, suc, _-_}
 use lib.Dec.{eqb, ltb, leb}
@@ -25,20 +25,26 @@ withPreemption x (parsedList xs) = parsedList (x ∷ xs)
 abbrev pub pathTest : ℕ → List ℕ → Bool
 pathTest k rest = leb 1 k && (leb k longestPath && leb k (length rest))
 
--- a preemption with these numbers keeps the rules, where the point before it is `low`
-abbrev pub preemptionTest : ℕ → ℕ → ℕ → ℕ → ℕ → ℕ → ℕ → List ℕ → Bool
-preemptionTest t p long low point by k rest = leb low point && (ltb point long && (ltb by t && (not (eqb by p) && pathTest k rest)))
+-- the point (j, e) doesn't come before the point (i, d)
+abbrev pub notBefore : ℕ → ℕ → ℕ → ℕ → Bool
+notBefore i d j e = ltb i j || (eqb i j && leb d e)
+
+-- a preemption with these numbers keeps the rules, where the point before it is (low, lowDone)
+abbrev pub preemptionTest : ℕ → ℕ → ℕ → ℕ → ℕ → ℕ → ℕ → ℕ → ℕ → List ℕ → Bool
+preemptionTest t p long low lowDone position done by k rest =
+    notBefore low lowDone position done && (ltb position long && (ltb by t && (not (eqb by p) && pathTest k rest)))
 
 -- `left` preemptions, and no number after them
-unfoldable pub preemptionsFrom : ℕ → ℕ → ℕ → ℕ → ℕ → List ℕ → ParsedList
-preemptionsFrom t p long zero low [] = parsedList []
-preemptionsFrom t p long zero low (x ∷ s) = brokenList
-preemptionsFrom t p long (suc left) low [] = brokenList
-preemptionsFrom t p long (suc left) low (point ∷ []) = brokenList
-preemptionsFrom t p long (suc left) low (point ∷ by ∷ []) = brokenList
-preemptionsFrom t p long (suc left) low (point ∷ by ∷ k ∷ rest) =
-    cond (preemptionTest t p long low point by k rest)
-    (withPreemption (record { point = point; by = by; path = take k rest }) (preemptionsFrom t p long left point (drop k rest)))
+unfoldable pub preemptionsFrom : ℕ → ℕ → ℕ → ℕ → ℕ → ℕ → List ℕ → ParsedList
+preemptionsFrom t p long zero low lowDone [] = parsedList []
+preemptionsFrom t p long zero low lowDone (x ∷ s) = brokenList
+preemptionsFrom t p long (suc left) low lowDone [] = brokenList
+preemptionsFrom t p long (suc left) low lowDone (position ∷ []) = brokenList
+preemptionsFrom t p long (suc left) low lowDone (position ∷ done ∷ []) = brokenList
+preemptionsFrom t p long (suc left) low lowDone (position ∷ done ∷ by ∷ []) = brokenList
+preemptionsFrom t p long (suc left) low lowDone (position ∷ done ∷ by ∷ k ∷ rest) =
+    cond (preemptionTest t p long low lowDone position done by k rest)
+    (withPreemption (record { position = position; done = done; by = by; path = take k rest }) (preemptionsFrom t p long left position done (drop k rest)))
     brokenList
 
 -- a run, or none where the sheet breaks the rules
@@ -53,7 +59,7 @@ withPath p path (parsedList xs) = parsed (record { p = p; path = path; preemptio
 -- the numbers after the path of l blocks of the task p: the count, and the preemptions
 unfoldable pub afterPath : ℕ → ℕ → Path → List ℕ → Parsed
 afterPath t p path [] = broken
-afterPath t p path (count ∷ rest) = cond (leb count 16) (withPath p path (preemptionsFrom t p (length path) count 0 rest)) broken
+afterPath t p path (count ∷ rest) = cond (leb count 16) (withPath p path (preemptionsFrom t p (length path) count 0 0 rest)) broken
 
 unfoldable pub parse : ℕ → Sheet → Parsed
 parse t [] = broken
@@ -72,7 +78,7 @@ keptSheet (parsed r) = true
 -- the numbers after a path of `long` blocks of the task p keep the rules
 abbrev pub listTest : ℕ → ℕ → ℕ → List ℕ → Bool
 listTest t p long [] = false
-listTest t p long (count ∷ rest) = leb count 16 && keptList (preemptionsFrom t p long count 0 rest)
+listTest t p long (count ∷ rest) = leb count 16 && keptList (preemptionsFrom t p long count 0 0 rest)
 
 -- the run of a sheet that keeps the rules
 abbrev pub runOf : Parsed → SheetRun
@@ -114,9 +120,22 @@ completeBy ts x = completePath (task ts (x .by)) (x .path)
 abbrev pub completeAll : List Task → SheetRun → Bool
 completeAll ts r = completePath (task ts (r .p)) (r .path) && eachPasses (completeBy ts) (r .preemptions)
 
--- a preemption of the path of a task comes after an unmasked block
+-- so many references of a block may be done where a preemption comes
+abbrev pub rightDone : List ℕ → ℕ → Bool
+rightDone [] d = eqb d 0
+rightDone (m ∷ ms) d = leb 1 d && leb d (length (m ∷ ms))
+
+-- a preemption of the path of a task has a right number of references done
+abbrev pub donePoint : Task → Path → Preemption → Bool
+donePoint t path x = rightDone (block t (getD path (x .position) 0) .references) (x .done)
+
+-- all preemptions of a run do
+abbrev pub doneAll : List Task → SheetRun → Bool
+doneAll ts r = eachPasses (donePoint (task ts (r .p)) (r .path)) (r .preemptions)
+
+-- a preemption of the path of a task comes in an unmasked block
 abbrev pub unmaskedPoint : Task → Path → Preemption → Bool
-unmaskedPoint t path x = unmasked t (getD path (x .point) 0)
+unmaskedPoint t path x = unmasked t (getD path (x .position) 0)
 
 -- all preemptions of a run do
 abbrev pub unmaskedAll : List Task → SheetRun → Bool

@@ -1,12 +1,12 @@
--- Document 01, "Calls": the run sheet of Replay, and checks 12 and 13 against it; document 02, Point 1: check 16, and Point 3: the
--- longest path of a sheet. Definitions only.
+-- Document 01, "Calls": the run sheet of Replay, and checks 12 and 13 against it; document 02, Point 1: check 16, Point 3: the longest path of a
+-- sheet, and Point 6: points of two numbers. Definitions only.
 use mathlib.Core.Path.{_≡_}
 use mathlib.Core.Logic.{_≢_}
 use mathlib.Core.List.{List, [], _∷_, _++_}
 use Prim.Native.Nat.{ℕ, _≤_, _<_}
 use lib.ListN.{length, getD}
 use Rattle.model.specs.Lists.{Each}
-use Rattle.model.specs.Tasks.{Task, Unmasked, Path, Complete, task}
+use Rattle.model.specs.Tasks.{Block, Task, block, Unmasked, Done, Path, Complete, task}
 use Rattle.model.specs.Runs.{Preemption, NeverFall, DisturbedRun}
 
 -- what a run sheet says: task p, its path, and the preemptions
@@ -19,10 +19,11 @@ pub record SheetRun : Type 0 where
 abbrev pub pathNumbers : Path → List ℕ
 pathNumbers path = length path ∷ path
 
--- "for each the point .., the task, path length .., the blocks"
+-- "for each the point .., the task, path length .., the blocks"; Point 6: "A point becomes two numbers: the position in the path, and how many
+-- references of that block are done"
 abbrev pub preemptionNumbers : List Preemption → List ℕ
 preemptionNumbers [] = []
-preemptionNumbers (x ∷ xs) = x .point ∷ x .by ∷ (pathNumbers (x .path) ++ preemptionNumbers xs)
+preemptionNumbers (x ∷ xs) = x .position ∷ x .done ∷ x .by ∷ (pathNumbers (x .path) ++ preemptionNumbers xs)
 
 -- the numbers of a run sheet
 abbrev pub Sheet : Type 0
@@ -44,12 +45,12 @@ pub record PathInBounds (path : Path) : Type 0 where
 
 -- a preemption of a path of `long` blocks of the task p, in a file of t tasks: "Points lie in the path ..."; "A preempting task isn't p."
 pub record PreemptionInRules (t p long : ℕ) (x : Preemption) : Type 0 where
-  pub inPath : x .point < long
+  pub inPath : x .position < long
   pub there : x .by < t
   pub other : x .by ≢ p
   pub bounds : PathInBounds (x .path)
 
--- the rules of a sheet, in a file of t tasks: "preemption count 0 to 16"; "Points .. never fall."
+-- the rules of a sheet, in a file of t tasks: "preemption count 0 to 16"; "Points .. never fall.", as pairs (Point 6)
 pub record InRules (t : ℕ) (r : SheetRun) : Type 0 where
   pub there : r .p < t
   pub bounds : PathInBounds (r .path)
@@ -70,13 +71,18 @@ pub record AllComplete (ts : List Task) (r : SheetRun) : Type 0 where
   pub own : Complete (task ts (r .p)) (r .path)
   pub each : Each (λ (x : Preemption). Complete (task ts (x .by)) (x .path)) (r .preemptions)
 
--- check 13: "a path in it isn't complete, or names a block that isn't there", of a sheet that keeps the rules
+-- document 02, Point 6: at each point as many references are done as the block of the path there allows, masked or not
+abbrev pub RightDone : List Task → SheetRun → Type 0
+RightDone ts r = Each (λ (x : Preemption). Done (block (task ts (r .p)) (getD (r .path) (x .position) 0) .references) (x .done)) (r .preemptions)
+
+-- check 13: "a path in it isn't complete, or names a block that isn't there", of a sheet that keeps the rules; Point 6: "a wrong number of
+-- references is check 13"
 abbrev pub Fault13 : List Task → Sheet → Type 0
-Fault13 ts sheet = (r : SheetRun) × InRules (length ts) r × (sheet ≡ sheetNumbers r) × (AllComplete ts r → ⊥)
+Fault13 ts sheet = (r : SheetRun) × InRules (length ts) r × (sheet ≡ sheetNumbers r) × (AllComplete ts r × RightDone ts r → ⊥)
 
 -- document 02, Point 1: "preemptions avoid masked blocks (its path may pass them)": the block of the path at each point is unmasked
 abbrev pub AvoidsMasked : List Task → SheetRun → Type 0
-AvoidsMasked ts r = Each (λ (x : Preemption). Unmasked (task ts (r .p)) (getD (r .path) (x .point) 0)) (r .preemptions)
+AvoidsMasked ts r = Each (λ (x : Preemption). Unmasked (task ts (r .p)) (getD (r .path) (x .position) 0)) (r .preemptions)
 
 -- check 16: "a preemption at a masked position", of a sheet that keeps the rules
 abbrev pub Fault16 : List Task → Sheet → Type 0

@@ -2,7 +2,7 @@
 ghost use mathlib.Core.Path.{_≡_};
 ghost use Prim.Native.Nat.{_+_, _≤_, _<_};
 ghost use lib.ListN.{length, getD, drop};
-ghost use Rattle.sheet.specs.Parsed.{pathTest, preemptionTest, preemptionsFrom, listTest, parse, keptList, keptSheet};
+ghost use Rattle.sheet.specs.Parsed.{pathTest, notBefore, preemptionTest, preemptionsFrom, listTest, parse, keptList, keptSheet};
 use cache::numbers::count;
 
 // The most blocks of a path.
@@ -24,7 +24,21 @@ fn path_kept(long: usize, rest: &[u16]) -> bool
     long <= rest.len()
 }
 
-// Whether the preemption that begins at `at` keeps the rules, in a path of `long` blocks of the task p, where the point before it is `low`.
+// Whether the point of the position j and e references done doesn't come before that of i and d: the positions decide, or the references.
+fn not_before(i: usize, d: usize, j: usize, e: usize) -> bool
+    ensures { λ r. ⌜ r ≡ notBefore i d j e ⌝ }
+{
+    if i < j {
+        return true;
+    }
+    if i == j {
+        return d <= e;
+    }
+    false
+}
+
+// Whether the preemption that begins at `at` keeps the rules, in a path of `long` blocks of the task p, where the point before it is the position
+// `low` with `low_done` references done. The number of references done is not tested against the block.
 fn preemption_kept(
     sheet: &[u16],
     at: usize,
@@ -32,27 +46,28 @@ fn preemption_kept(
     p: usize,
     long: usize,
     low: usize,
+    low_done: usize,
 ) -> bool
-    requires { ⌜ at + 3 ≤ length (now sheet) ⌝ }
-    ensures { λ r. ⌜ r ≡ preemptionTest tasks p long low (getD (now (sheet .entry)) at 0) (getD (now (sheet .entry)) (at + 1) 0)
-        (getD (now (sheet .entry)) (at + 2) 0) (drop (at + 3) (now (sheet .entry))) ⌝ }
+    requires { ⌜ at + 4 ≤ length (now sheet) ⌝ }
+    ensures { λ r. ⌜ r ≡ preemptionTest tasks p long low «low_done» (getD (now (sheet .entry)) at 0) (getD (now (sheet .entry)) (at + 1) 0)
+        (getD (now (sheet .entry)) (at + 2) 0) (getD (now (sheet .entry)) (at + 3) 0) (drop (at + 4) (now (sheet .entry))) ⌝ }
 {
-    let point = count(sheet[at]);
-    let by = count(sheet[at + 1]);
-    if point < low {
-        return false;
+    let position = count(sheet[at]);
+    let by = count(sheet[at + 2]);
+    if not_before(low, low_done, position, count(sheet[at + 1])) {
+        if long <= position {
+            return false;
+        }
+        if tasks <= by {
+            return false;
+        }
+        if by == p {
+            return false;
+        }
+        let from = at + 4;
+        return path_kept(count(sheet[at + 3]), &sheet[from..]);
     }
-    if long <= point {
-        return false;
-    }
-    if tasks <= by {
-        return false;
-    }
-    if by == p {
-        return false;
-    }
-    let from = at + 3;
-    path_kept(count(sheet[at + 2]), &sheet[from..])
+    false
 }
 
 // Whether the numbers from `from` on are this many preemptions, and nothing else.
@@ -65,17 +80,19 @@ fn preemptions_kept(
     long: usize,
 ) -> bool
     requires { ⌜ from ≤ length (now sheet) ⌝ }
-    ensures { λ r. ⌜ r ≡ keptList (preemptionsFrom tasks p long all 0 (drop from (now (sheet .entry)))) ⌝ }
+    ensures { λ r. ⌜ r ≡ keptList (preemptionsFrom tasks p long all 0 0 (drop from (now (sheet .entry)))) ⌝ }
 {
     let mut at = from;
     let mut low: usize = 0;
+    let mut low_done: usize = 0;
     for k in 0..all {
-        if sheet.len() < at + 3 {
+        if sheet.len() < at + 4 {
             return false;
         }
-        if preemption_kept(sheet, at, tasks, p, long, low) {
+        if preemption_kept(sheet, at, tasks, p, long, low, low_done) {
             low = count(sheet[at]);
-            at = at + 3 + count(sheet[at + 2]);
+            low_done = count(sheet[at + 1]);
+            at = at + 4 + count(sheet[at + 3]);
         } else {
             return false;
         }

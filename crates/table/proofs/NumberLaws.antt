@@ -3,14 +3,14 @@
 use mathlib.Core.Path.{_≡_, refl, sym, ap, _∙_}
 use mathlib.Core.Bool.{Bool, true, false, true≢false}
 use mathlib.Core.List.{List}
-use Prim.Native.Nat.{ℕ, _≤_, _<_, max}
+use Prim.Native.Nat.{ℕ, _<_, max}
 use native.Mathlib.Omega.{arith}
 use lib.ListN.{length, getD, take, drop}
 use Rattle.cache.specs.Cache.{Cache}
 use Rattle.model.specs.Tasks.{Task, task}
 use Rattle.model.specs.Computed.{reaching, living, pairNumber}
-use Rattle.body.specs.Jumps.{unmaskedSet}
-use Rattle.body.proofs.JumpLaws.{in-unmasked}
+use Rattle.body.specs.Layout.{InBounds}
+use Rattle.body.proofs.Decoded.{blocks-real}
 use Rattle.rows.specs.Rows.{Width, kindLength}
 use Rattle.gather.specs.Graph.{tooMany}
 use Rattle.gather.specs.Memory.{heldRows, Memory}
@@ -19,8 +19,9 @@ use Rattle.graphs.specs.TaskRows.{test11, AreaRows}
 use Rattle.graphs.proofs.Gathered.{held-sorted}
 use Rattle.project.proofs.Accepted.{or-false-left, or-false-right}
 use Rattle.area.proofs.Areas.{few-rows}
-use Rattle.pairs.specs.Pairs.{within, taskMost, endsOf, Met}
-use Rattle.pairs.proofs.PairNumbers.{pair-number}
+use Rattle.pairs.specs.Pairs.{endsOf, Met}
+use Rattle.task_pairs.specs.TaskPairs.{taskMost}
+use Rattle.task_pairs.proofs.PairNumbers.{pair-number}
 use Rattle.table.specs.Found.{Few, EndsFound, NumbersFound}
 
 gathered-memory : {w : ℕ} (all : ℕ → List (List ℕ)) {rows counts : List ℕ} → Width w → length rows ≡ kindLength w → length counts ≡ 24 → tooMany all 24 ≡ false
@@ -56,11 +57,10 @@ module _ (k : Cache) (t : Task) {area reached lived : List ℕ} {full : Bool} (h
           rw second
           (gathered-memory (living k t) width (h .rows .liveLong) (h .rows .liveMany) (or-false-right (tooMany (reaching k t) 24) (tooMany (living k t) 24) none) (h .rows .lived few))
 
-      pub numbers-few : (ts : List Task) (tasks blocks : ℕ) {set : ℕ} {ends counts unions old new : List ℕ} → blocks ≡ length t → blocks ≤ 24 → set ≡ unmaskedSet t
-          → length old ≡ 8 → EndsFound k ts tasks ends counts unions
-          → Met (taskMost (within set (heldRows (k .width) rows reached)) (heldRows (k .width) live lived) blocks 0) (k .width) ends counts tasks old new
+      pub numbers-few : (ts : List Task) (tasks : ℕ) {ends counts unions old new : List ℕ} → InBounds t → length old ≡ 8 → EndsFound k ts tasks ends counts unions
+          → Met (taskMost k t (heldRows (k .width) rows reached) (heldRows (k .width) live lived) (length t) 0) (k .width) ends counts tasks old new
           → NumbersFound k ts tasks t old new false
-      numbers-few ts tasks blocks {set} {ends} {counts} {unions} {old} {new} e low masks long found met =
+      numbers-few ts tasks {ends} {counts} {unions} {old} {new} bounds long found met =
           record {
             long = met .long ∙ long;
             answer = sym none;
@@ -70,9 +70,9 @@ module _ (k : Cache) (t : Task) {area reached lived : List ℕ} {full : Bool} (h
           }
         where
           number : (j : ℕ) → j < tasks → Few k (task ts j)
-              → taskMost (within set (heldRows (k .width) rows reached)) (heldRows (k .width) live lived) blocks 0 (endsOf (k .width) ends counts j) ≡ pairNumber k t (task ts j)
+              → taskMost k t (heldRows (k .width) rows reached) (heldRows (k .width) live lived) (length t) 0 (endsOf (k .width) ends counts j) ≡ pairNumber k t (task ts j)
           number j l f =
-              rw e
-              (pair-number k t (task ts j) set (heldRows (k .width) rows reached) (heldRows (k .width) live lived) (endsOf (k .width) ends counts j)
-              (λ b i. rw masks (in-unmasked t b i))
-              (λ b i. rw first (held-sorted b (h .rows .reached few b (omega (arith, e))))) (λ b i. rw second (held-sorted b (h .rows .lived few b (omega (arith, e))))) (found .found j l f))
+              pair-number k t (task ts j) (heldRows (k .width) rows reached) (heldRows (k .width) live lived) (endsOf (k .width) ends counts j) (bounds .few)
+              (blocks-real (length t) t (bounds .each))
+              (λ b i. rw first (held-sorted b (h .rows .reached few b (omega (arith, bounds .few))))) (λ b i. rw second (held-sorted b (h .rows .lived few b (omega (arith, bounds .few)))))
+              (found .found j l f)

@@ -16,14 +16,12 @@ ghost use Rattle.project.specs.Tasks.{tasksOf, fileShape};
 ghost use Rattle.pairs.specs.Pairs.{EndRows};
 ghost use Rattle.table.specs.Table.{firstFull, tableOf};
 ghost use Rattle.table.specs.Found.{EndsFound, NumbersFound};
-use body::block_count;
-use body::masks::unmasked_blocks;
 use cache::blocks::CacheShape;
 use graphs::task_rows::task_rows;
-use pairs::numbers::meet_task;
 use project::answers::Check;
 use reader::task_body;
 use reader::tasks::task_byte;
+use task_pairs::meet_task;
 
 // The numbers of the task of a body, each raised to its pair number preempted by that task; true where a block has too many states. Told only where
 // the end rows are those of some tasks. Left open are the area, and the numbers against tasks with too many reaching states.
@@ -51,9 +49,9 @@ fn task_numbers(
     }
     let kind = 24 * (32 * w);
     meet_task(
+        body,
+        shape,
         w,
-        block_count(body),
-        unmasked_blocks(body),
         &area[0..kind],
         &reached,
         &area[kind..kind + kind],

@@ -1,24 +1,19 @@
 -- `costliest::run_of_two` meets its contract: check 11 of the two tasks, and then the run. Assumes nothing.
-use mathlib.Core.Path.{_≡_, refl, sym, ap, subst, _∙_}
-use mathlib.Core.Bool.{Bool, true, false}
-use mathlib.Core.List.{List}
-use Prim.Native.Nat.{ℕ, _<_}
+use mathlib.Core.Path.{_≡_, sym, subst, _∙_}
+use mathlib.Core.Bool.{Bool}
 use native.Mathlib.Omega.{arith}
-use lib.ListN.{length}
 use Rattle.cache.specs.Shape.{shaped}
 use Rattle.cache.specs.declared.blocks.CacheShape.{CacheShape}
 use Rattle.model.specs.Tasks.{task}
-use Rattle.project.specs.declared.answers.Check.{Check}
 use Rattle.project.specs.File.{taskCount}
 use Rattle.project.specs.Checklist.{verdictOf}
-use Rattle.project.specs.Tasks.{tasksOf, fileShape, fileCacheIn}
+use Rattle.project.specs.Tasks.{tasksOf, fileCacheIn}
 use Rattle.reader.proofs.TaskBodies.{tasks-long}
 use Rattle.task_trails.specs.TaskTrails.{AreaTrails}
-use Rattle.costliest.specs.Costliest.{twoCheck, twoChecks}
+use Rattle.costliest.specs.Costliest.{twoChecks}
 use Rattle.costliest.proofs.FoundRows.{few-tasks}
 use Rattle.costliest.proofs.CostliestVerdicts.{two-tasks, two-verdict, both-passed}
 use Rattle.costliest.proofs.Answers.{answer-as, refused-as}
-use borrow.Author.Needs.{needs}
 use borrow.Author.Needs.{needs}
 use Rattle.costliest.proofs.run_of_two.Statement.{statement}
 use Rattle.costliest.proofs.run_of_two.Tie as tie
@@ -85,7 +80,8 @@ write-run-requires c κs =
     let other = e .before .before .before .find-trails2 in
     let (p, q) = both-passed (start .args .i) (start .args .j) (own .result .full) (other .result .full) (sym (e .check-two .ensures) ∙ c .before .before .before .enum-told .given .1) in (
       start .pre .0,
-      omega (arith, start .pre .2 .room, ap (λ (x : CacheShape). x .blocks) (start .pre .1)),
+      start .pre .1,
+      start .pre .2,
       start .pre .4,
       start .pre .5,
       subst (λ (b : Bool). AreaTrails (fileCacheIn (start .args .w) (start .args .file .now)) (task (tasksOf (start .args .file .now)) (start .args .i)) (own .last .1 .1 .1 .1 .0)

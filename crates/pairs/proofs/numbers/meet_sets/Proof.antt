@@ -36,7 +36,7 @@ loop-holds c =
     let start = c .before .before .before .before .before .before .before in
     let args = start .args in
     let w = length (args .row .now) in
-    (omega arith, start .pre .3, met-start w (args .ends .now) (args .counts .now) (usefulMost (args .row .now) (args .useful .now)) (args .numbers .now))
+    (omega arith, start .pre .2, met-start w (args .ends .now) (args .counts .now) (usefulMost (args .row .now) (args .useful .now)) (args .numbers .now))
 
 mul-at : tie.Need-mul-at Inv-loop μ-loop
 mul-at c = omega (arith, inside c)
@@ -83,7 +83,6 @@ raised-by-row-requires c κs =
     let below = inside (c .before .before .before .before) .2 in (
       start .pre .0 .width,
       start .pre .1,
-      start .pre .2,
       lent-long (32 * w) j 8 (args .ends .now) below (start .pre .0 .long),
       start .pre .0 .few j below,
       start .pre .0 .joined j below ∙ ap (λ (fs : List (List ℕ)). bits w (someUses fs)) (sym (held-at w (args .ends .now) (args .counts .now) j)),

@@ -7,7 +7,7 @@ use borrow.Author.Needs.{needs}
 use lib.ListN.{length}
 use Rattle.rows.specs.Rows.{rowsOf}
 use Rattle.rows.proofs.Parts.{lent-first}
-use Rattle.pairs.specs.Pairs.{setsMost, rowMost, usefulMost}
+use Rattle.pairs.specs.Pairs.{setsMost, pointMost, usefulMost}
 use Rattle.pairs.proofs.ReplacedSets.{stays-used, stays-replaced}
 use Rattle.pairs.proofs.UsefulSets.{useful-most, sizes-ones, part-bounded}
 use Rattle.pairs.proofs.numbers.raised_by_row.Statement.{statement}
@@ -18,9 +18,9 @@ abbrev ends : (c : tie.Start) → List (List ℕ)
 ends c = rowsOf (length (c .args .row .now)) (c .args .count) (c .args .ends .now)
 
 -- the most over the live rows is that over the useful sets
-same : (c : tie.Start) → max (c .args .number) (rowMost (c .args .row .now) (c .pre .2 .lives) (ends c))
+same : (c : tie.Start) → max (c .args .number) (pointMost (c .args .row .now) (c .pre .1 .rest) (c .pre .1 .lives) (ends c))
     ≡ max (c .args .number) (usefulMost (c .args .row .now) (c .args .useful .now) (ends c))
-same c = ap (max (c .args .number)) (useful-most (c .args .row .now) (c .args .useful .now) (c .args .sizes .now) (c .pre .2) (ends c))
+same c = ap (max (c .args .number)) (useful-most (c .args .row .now) (c .args .held) (c .args .useful .now) (c .args .sizes .now) (c .pre .1) (ends c))
 
 common-requires : tie.Need-common-requires
 common-requires c κs = search needs
@@ -28,7 +28,7 @@ common-requires c κs = search needs
 returns : tie.Need-returns
 returns c =
     let start = c .before .before .before .before .before .before in
-    stays-used (start .args .row .now) (start .pre .2 .lives) (ends start) (start .args .number) (start .pre .1) (c .if1 .taken) (c .before .common .ensures) (start .pre .5)
+    stays-used (start .args .row .now) (start .pre .1 .rest) (start .pre .1 .lives) (ends start) (start .args .number) (start .pre .1 .kept-is) (c .if1 .taken) (c .before .common .ensures) (start .pre .4)
     ∙ same start
 
 slice-aggregate-replaced-sets : tie.Need-slice-aggregate-replaced-sets
@@ -43,7 +43,7 @@ common-requires-2 c κs = search needs
 returns-2 : tie.Need-returns-2
 returns-2 c =
     let start = c .before .before .before .before .before .before .before .before .before .before .before in
-    stays-replaced (start .args .row .now) (start .pre .2 .lives) (ends start) (start .args .number) (start .pre .1) (c .if2 .taken) (c .before .common2 .ensures)
+    stays-replaced (start .args .row .now) (start .pre .1 .rest) (start .pre .1 .lives) (ends start) (start .args .number) (start .pre .1 .kept-is) (c .if2 .taken) (c .before .common2 .ensures)
     (c .before .before .before .replaced-sets .ensures .3)
     ∙ same start
 
@@ -62,9 +62,10 @@ raised-by-sets-requires c κs =
     let found = c .before .before .before .before .before .replaced-sets in
     let part = lent-first (start .args .count) (found .last .1 .1 .1 .0) ∙ found .ensures .1 in
     let row = start .args .row .now in
+    let held = start .args .held in
     let us = start .args .useful .now in
     let sizes = start .args .sizes .now in
-    (sizes-ones row us sizes (start .pre .2), part-bounded row us sizes (start .pre .2) (ends start) part (found .ensures .3))
+    (sizes-ones row held us sizes (start .pre .1), part-bounded row held us sizes (start .pre .1) (ends start) part (found .ensures .3))
 
 returns-3 : tie.Need-returns-3
 returns-3 c =

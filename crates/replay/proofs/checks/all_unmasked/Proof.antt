@@ -4,12 +4,12 @@ use native.Mathlib.Omega.{arith}
 use borrow.Author.Needs.{needs}
 use lib.ListN.{length}
 use Rattle.replay.proofs.SheetLaws.{SheetFacts, sheet-facts, EachLeft, NextLeft, each-start, next-left, each-end, each-broken, each-on}
-use Rattle.replay.proofs.MaskLaws.{pointTest, block-there, block-below, point-masked, point-unmasked}
+use Rattle.replay.proofs.PointLaws.{maskTest, block-there, block-below, point-masked, point-unmasked}
 use Rattle.replay.proofs.checks.all_unmasked.Statement.{statement}
 use Rattle.replay.proofs.checks.all_unmasked.Tie as tie
 
 abbrev Inv-loop : tie.InvT-loop
-Inv-loop file sheet set at₀ at = EachLeft (pointTest file sheet) file sheet at
+Inv-loop file sheet set at₀ at = EachLeft (maskTest file sheet) file sheet at
 
 abbrev μ-loop : tie.MeasureT-loop
 μ-loop file sheet set at₀ at = length sheet - at
@@ -20,17 +20,17 @@ facts c = sheet-facts (c .args .file .now) (c .args .sheet .now) (c .pre .rules)
 -- the next preemption
 next : (c : tie.In-loop Inv-loop μ-loop)
     → let args = c .before .before .before .before .before .before .before .before .before .args in
-    NextLeft (pointTest (args .file .now) (args .sheet .now)) (args .file .now) (args .sheet .now) (c .before .loop .at)
+    NextLeft (maskTest (args .file .now) (args .sheet .now)) (args .file .now) (args .sheet .now) (c .before .loop .at)
 next c =
     let args = c .before .before .before .before .before .before .before .before .before .args in
-    next-left (pointTest (args .file .now) (args .sheet .now)) (args .file .now) (args .sheet .now) (c .before .loop .at) (c .before .loop .inv) (c .loop-test .taken)
+    next-left (maskTest (args .file .now) (args .sheet .now)) (args .file .now) (args .sheet .now) (c .before .loop .at) (c .before .loop .inv) (c .loop-test .taken)
 
 -- the block at its point lies in the sheet
 there : (c : tie.After-count3 Inv-loop μ-loop) → 2 + c .count3 .result < length (c .before .before .before .before .before .before .before .before .before .before .before .args .sheet .now)
 there c =
     let k = c .before .before in
     let start = k .before .before .before .before .before .before .before .before .before in
-    block-there (start .args .file .now) (start .args .sheet .now) (start .pre) (k .before .loop .at) (next k) (c .count3 .ensures .0)
+    block-there (maskTest (start .args .file .now) (start .args .sheet .now)) (start .args .file .now) (start .args .sheet .now) (start .pre .rules) (k .before .loop .at) (next k) (c .count3 .ensures .0)
 
 -- its number is below 24
 below : (c : tie.After-count4 Inv-loop μ-loop) → c .count4 .result < 24
@@ -62,7 +62,7 @@ add-at c = omega arith
 loop-holds : tie.Need-loop-holds Inv-loop μ-loop
 loop-holds c =
     let start = c .before .before .before .before .before .before .before in
-    each-start (pointTest (start .args .file .now) (start .args .sheet .now)) (start .args .file .now) (start .args .sheet .now) (facts start) (c .count2 .ensures .0)
+    each-start (maskTest (start .args .file .now) (start .args .sheet .now)) (start .args .file .now) (start .args .sheet .now) (facts start) (c .count2 .ensures .0)
 
 mul-count : tie.Need-mul-count Inv-loop μ-loop
 mul-count c = omega arith
@@ -99,7 +99,7 @@ returns c =
     let file = start .args .file .now in
     let sheet = start .args .sheet .now in
     let set = k .before .before .before .before in
-    each-broken (pointTest file sheet) file sheet (k .before .loop .at) (next k)
+    each-broken (maskTest file sheet) file sheet (k .before .loop .at) (next k)
     (point-masked file sheet (start .pre) (k .before .loop .at) (next k) (m .before .before .count3 .ensures .0) (m .count4 .ensures .0) (set .before .count .ensures .0) (set .unmasked-in .ensures) (c .if1 .taken))
 
 add-at-2 : tie.Need-add-at-2 Inv-loop μ-loop
@@ -131,13 +131,13 @@ loop-again c =
     let file = start .args .file .now in
     let sheet = start .args .sheet .now in
     let set = k .before .before .before .before in
-    each-on (pointTest file sheet) file sheet (k .before .loop .at) (next k) (c .count5 .ensures .0)
+    each-on (maskTest file sheet) file sheet (k .before .loop .at) (next k) (c .count5 .ensures .0)
     (point-unmasked file sheet (start .pre) (k .before .loop .at) (next k) (m .before .before .count3 .ensures .0) (m .count4 .ensures .0) (set .before .count .ensures .0) (set .unmasked-in .ensures) (c .before .before .if1 .left))
 
 returns-2 : tie.Need-returns-2 Inv-loop μ-loop
 returns-2 c =
     let args = c .before .before .before .before .before .before .before .before .before .args in
-    each-end (pointTest (args .file .now) (args .sheet .now)) (args .file .now) (args .sheet .now) (c .before .loop .at) (c .before .loop .inv) (c .loop-test .left)
+    each-end (maskTest (args .file .now) (args .sheet .now)) (args .file .now) (args .sheet .now) (c .before .loop .at) (c .before .loop .inv) (c .loop-test .left)
 
 pub all-unmasked-spec : {M : Type 1} → statement M
 all-unmasked-spec =

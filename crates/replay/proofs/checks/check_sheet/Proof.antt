@@ -1,4 +1,4 @@
--- `checks::check_sheet` meets its contract: the rules of the sheet, its paths and its points decide, one after the other. Assumes nothing.
+-- `checks::check_sheet` meets its contract: the rules of the sheet, its paths and points, and masks decide, one after the other. Assumes nothing.
 use mathlib.Core.Path.{_∙_}
 use borrow.Author.Needs.{needs}
 use Rattle.replay.proofs.CallLaws.{sheet-12, passed-12, sheet-13, passed-13, sheet-16, sheet-passed}
@@ -8,8 +8,8 @@ use Rattle.replay.proofs.checks.check_sheet.Tie as tie
 sheet-kept-requires : tie.Need-sheet-kept-requires
 sheet-kept-requires c κs = search needs
 
-all-complete-requires : tie.Need-all-complete-requires
-all-complete-requires c κs =
+paths-and-points-requires : tie.Need-paths-and-points-requires
+paths-and-points-requires c κs =
     let k = c .before in
     let start = k .before .before .before in
     passed-12 (start .args .file .now) (start .args .sheet .now) (start .pre .0) (start .pre .1) (k .sheet-kept .ensures) (c .if1 .taken)
@@ -19,7 +19,7 @@ all-unmasked-requires c κs =
     let d = c .before in
     let k = d .before .before in
     let start = k .before .before .before in
-    passed-13 (start .args .file .now) (start .args .sheet .now) (start .pre .0) (start .pre .1) (k .sheet-kept .ensures) (d .before .if1 .taken) (d .all-complete .ensures) (c .if2 .taken)
+    passed-13 (start .args .file .now) (start .args .sheet .now) (start .pre .0) (start .pre .1) (k .sheet-kept .ensures) (d .before .if1 .taken) (d .paths-and-points .ensures) (c .if2 .taken)
 
 returns : tie.Need-returns
 returns c =
@@ -27,7 +27,7 @@ returns c =
     let d = m .before .before in
     let k = d .before .before in
     let start = k .before .before .before in
-    sheet-passed (start .args .file .now) (start .args .sheet .now) (start .pre .0) (start .pre .1) (k .sheet-kept .ensures) (d .before .if1 .taken) (d .all-complete .ensures) (m .before .if2 .taken) (m .all-unmasked .ensures) (c .if3 .taken)
+    sheet-passed (start .args .file .now) (start .args .sheet .now) (start .pre .0) (start .pre .1) (k .sheet-kept .ensures) (d .before .if1 .taken) (d .paths-and-points .ensures) (m .before .if2 .taken) (m .all-unmasked .ensures) (c .if3 .taken)
 
 refused-requires : tie.Need-refused-requires
 refused-requires c κs = search needs
@@ -39,7 +39,7 @@ returns-2 c =
     let k = d .before .before in
     let start = k .before .before .before in
     c .refused .ensures
-    ∙ sheet-16 (start .args .file .now) (start .args .sheet .now) (start .pre .0) (start .pre .1) (k .sheet-kept .ensures) (d .before .if1 .taken) (d .all-complete .ensures) (m .before .if2 .taken) (m .all-unmasked .ensures) (c .before .if3 .left)
+    ∙ sheet-16 (start .args .file .now) (start .args .sheet .now) (start .pre .0) (start .pre .1) (k .sheet-kept .ensures) (d .before .if1 .taken) (d .paths-and-points .ensures) (m .before .if2 .taken) (m .all-unmasked .ensures) (c .before .if3 .left)
 
 refused-requires-2 : tie.Need-refused-requires-2
 refused-requires-2 c κs = search needs
@@ -50,7 +50,7 @@ returns-3 c =
     let k = d .before .before in
     let start = k .before .before .before in
     c .refused2 .ensures
-    ∙ sheet-13 (start .args .file .now) (start .args .sheet .now) (start .pre .0) (start .pre .1) (k .sheet-kept .ensures) (d .before .if1 .taken) (d .all-complete .ensures) (c .before .if2 .left)
+    ∙ sheet-13 (start .args .file .now) (start .args .sheet .now) (start .pre .0) (start .pre .1) (k .sheet-kept .ensures) (d .before .if1 .taken) (d .paths-and-points .ensures) (c .before .if2 .left)
 
 refused-requires-3 : tie.Need-refused-requires-3
 refused-requires-3 c κs = search needs
@@ -66,7 +66,7 @@ check-sheet-spec =
     tie.close
     (tie.spec
     sheet-kept-requires
-    all-complete-requires
+    paths-and-points-requires
     all-unmasked-requires
     returns
     refused-requires

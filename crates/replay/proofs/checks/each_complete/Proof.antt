@@ -30,7 +30,7 @@ next c =
 
 -- it lies in the sheet
 within : (c : tie.After-count2 Inv-loop μ-loop)
-    → c .before .before .before .loop .at + 3 + c .count2 .result ≤ length (c .before .before .before .before .before .before .before .before .args .sheet .now)
+    → c .before .before .before .loop .at + 4 + c .count2 .result ≤ length (c .before .before .before .before .before .before .before .before .args .sheet .now)
 within c = let n = next (c .before .before) in omega (arith, c .count2 .ensures .0, n .places .long-at, n .places .within)
 
 -- its task is one of the file

@@ -26,7 +26,8 @@ use Rattle.body.specs.Layout.{InBounds}
 use Rattle.body.specs.Decode.{decode, taskOf}
 use Rattle.runs.specs.Running.{held, ownPath, PathIn}
 use Rattle.runs.specs.declared.replay_cache.ReplayCache.{ReplayCache}
-use Rattle.runs.proofs.RunLaws.{walked as body-walked, few-bytes, path-turn, path-end, block-adds}
+use Rattle.body.proofs.Decoded.{few-bytes}
+use Rattle.runs.proofs.RunLaws.{walked as body-walked, path-turn, path-end, block-adds}
 use Rattle.runs.proofs.LentCache.{shapeVal, ShapeIs, shape-typed, R, at-cell, AfterAll}
 use Rattle.runs.proofs.PathCaller.{slice, Body-own, Starts-own, Path-own, References, ReferencesOn, Told-on, to-on, goes-on, gives-on}
 use Rattle.runs.proofs.path.references_on.Symbol as references-on-def

@@ -1,11 +1,12 @@
--- `numbers::task_numbers` meets its contract: what was gathered are the states of the task, and they are met by the end rows of each task. Assumes nothing.
-use native.Mathlib.Omega.{arith}
+-- `numbers::task_numbers` meets its contract: what was gathered are the states of the task, and its points are met by the end rows of each task. Assumes nothing.
 use Rattle.cache.specs.Shape.{shaped}
 use Rattle.body.specs.Decode.{decode, taskOf}
 use Rattle.rows.specs.Rows.{kindLength}
 use Rattle.rows.proofs.Parts.{lent-first, lent-second}
+use Rattle.graphs.proofs.Gathered.{kept-bounds}
 use Rattle.table.proofs.NumberLaws.{numbers-full, numbers-few, reaching-memory, live-memory}
 use borrow.Author.Needs.{needs}
+use native.Mathlib.Omega.{arith}
 use Rattle.table.proofs.numbers.task_numbers.Statement.{statement}
 use Rattle.table.proofs.numbers.task_numbers.Tie as tie
 
@@ -33,12 +34,6 @@ mul-kind c = omega (arith, c .before .before .before .before .before .before .be
 mul-kind-2 : tie.Need-mul-kind-2
 mul-kind-2 c = omega (arith, c .before .before .before .before .before .before .before .before .before .before .before .before .before .before .before .pre .2 .narrow)
 
-block-count-requires : tie.Need-block-count-requires
-block-count-requires c κs = search needs
-
-unmasked-blocks-requires : tie.Need-unmasked-blocks-requires
-unmasked-blocks-requires c κs = search needs
-
 sub-meet-task : tie.Need-sub-meet-task
 sub-meet-task c = search needs
 
@@ -46,16 +41,16 @@ part-meet-task-start : tie.Need-part-meet-task-start
 part-meet-task-start c = search needs
 
 part-meet-task-end : tie.Need-part-meet-task-end
-part-meet-task-end c = omega (arith, c .before .before .before .before .before .before .before .before .task-rows .ensures .long)
+part-meet-task-end c = omega (arith, c .before .before .before .before .before .before .task-rows .ensures .long)
 
 slice-aggregate-meet-task : tie.Need-slice-aggregate-meet-task
 slice-aggregate-meet-task c = search needs
 
 add-meet-task : tie.Need-add-meet-task
-add-meet-task c = omega (arith, c .before .before .before .before .before .before .before .before .before .before .before .before .before .before .before .before .before .before .before .before .pre .2 .narrow)
+add-meet-task c = omega (arith, c .before .before .before .before .before .before .before .before .before .before .before .before .before .before .before .before .before .before .pre .2 .narrow)
 
 mul-meet-task : tie.Need-mul-meet-task
-mul-meet-task c = omega (arith, c .before .before .before .before .before .before .before .before .before .before .before .before .before .before .before .before .before .before .before .before .pre .2 .narrow)
+mul-meet-task c = omega (arith, c .before .before .before .before .before .before .before .before .before .before .before .before .before .before .before .before .before .before .pre .2 .narrow)
 
 sub-meet-task-2 : tie.Need-sub-meet-task-2
 sub-meet-task-2 c = search needs
@@ -64,22 +59,23 @@ part-meet-task-start-2 : tie.Need-part-meet-task-start-2
 part-meet-task-start-2 c = search needs
 
 part-meet-task-end-2 : tie.Need-part-meet-task-end-2
-part-meet-task-end-2 c = omega (arith, c .before .before .before .before .before .before .before .before .before .before .task-rows .ensures .long)
+part-meet-task-end-2 c = omega (arith, c .before .before .before .before .before .before .before .before .task-rows .ensures .long)
 
 slice-aggregate-meet-task-2 : tie.Need-slice-aggregate-meet-task-2
 slice-aggregate-meet-task-2 c = search needs
 
 meet-task-requires : tie.Need-meet-task-requires
 meet-task-requires c κs =
-    let start = c .before .before .before .before .before .before .before .before .before .before .before .before .before .before .before .before .before .before .before .before .before .before .before in
-    let rows = c .before .before .before .before .before .before .before .before .before .before .before .before .before .task-rows in
-    let few = c .before .before .before .before .before .before .before .before .if1 .left in
+    let start = c .before .before .before .before .before .before .before .before .before .before .before .before .before .before .before .before .before .before .before .before .before in
+    let rows = c .before .before .before .before .before .before .before .before .before .before .before .task-rows in
+    let few = c .before .before .before .before .before .before .if1 .left in
     let k = shaped (start .args .w) (start .args .shape) in
     let t = taskOf (decode (start .args .body .now)) in
     let kind = kindLength (start .args .w) in
     let first = lent-first kind (rows .last .1 .1 .1 .0) in
     let second = lent-second kind (rows .last .1 .1 .1 .0) in (
-      c .before .before .before .before .before .before .before .block-count .ensures .2,
+      start .pre .0,
+      start .pre .1,
       reaching-memory k t (rows .ensures) few first second (start .pre .2),
       live-memory k t (rows .ensures) few first second (start .pre .2),
       start .pre .4,
@@ -94,17 +90,15 @@ same-length-3 c = search needs
 
 returns-2 : tie.Need-returns-2
 returns-2 c =
-    let start = c .before .before .before .before .before .before .before .before .before .before .before .before .before .before .before .before .before .before .before .before .before .before .before .before .before .before in
-    let rows = c .before .before .before .before .before .before .before .before .before .before .before .before .before .before .before .before .task-rows in
-    let few = c .before .before .before .before .before .before .before .before .before .before .before .if1 .left in
-    let blocks = c .before .before .before .before .before .before .before .before .before .before .block-count in
+    let start = c .before .before .before .before .before .before .before .before .before .before .before .before .before .before .before .before .before .before .before .before .before .before .before .before in
+    let rows = c .before .before .before .before .before .before .before .before .before .before .before .before .before .before .task-rows in
+    let few = c .before .before .before .before .before .before .before .before .before .if1 .left in
     let k = shaped (start .args .w) (start .args .shape) in
     let t = taskOf (decode (start .args .body .now)) in
     let kind = kindLength (start .args .w) in
     let area = rows .last .1 .1 .1 .0 in (
       rows .ensures .long,
-      λ ts found. numbers-few k t (rows .ensures) few (lent-first kind area) (lent-second kind area) ts (start .args .tasks) (blocks .result) (blocks .ensures .0) (blocks .ensures .2)
-          (c .before .before .before .before .before .before .before .before .before .unmasked-blocks .ensures) (start .pre .5)
+      λ ts found. numbers-few k t (rows .ensures) few (lent-first kind area) (lent-second kind area) ts (start .args .tasks) (kept-bounds (start .args .body .now) (start .pre .0)) (start .pre .5)
           found (c .before .before .meet-task .ensures),
     )
 
@@ -119,8 +113,6 @@ task-numbers-spec =
     returns
     mul-kind
     mul-kind-2
-    block-count-requires
-    unmasked-blocks-requires
     sub-meet-task
     part-meet-task-start
     part-meet-task-end

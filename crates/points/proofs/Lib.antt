@@ -1,0 +1,3 @@
+pub mod DoneRows
+pub mod Rests
+pub mod Before

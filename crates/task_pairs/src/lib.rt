@@ -1,0 +1,322 @@
+// The numbers of one task against all tasks: the points of its unmasked blocks are met by the end rows of each task.
+ghost use mathlib.Core.Path.{_≡_};
+ghost use mathlib.Core.Bool.{true};
+ghost use Prim.Native.Nat.{_*_, _/_, _≤_, _<_};
+ghost use lib.ListN.{length};
+ghost use Rattle.cache.specs.References.{numbers as referencesIn};
+ghost use Rattle.cache.specs.Cache.{withReferences};
+ghost use Rattle.cache.specs.Shape.{shaped, Holds};
+ghost use Rattle.model.specs.Lists.{best};
+ghost use Rattle.model.specs.Computed.{upFrom};
+ghost use Rattle.body.specs.Decode.{decode, taskOf};
+ghost use Rattle.body.specs.Walk.{keptOf};
+ghost use Rattle.rows.specs.Rows.{rowsOf};
+ghost use Rattle.gather.specs.Memory.{Memory, heldRows};
+ghost use Rattle.points.specs.Points.{rowsIn, rowsBefore};
+ghost use Rattle.pairs.specs.Pairs.{EndRows, Met};
+ghost use Rattle.task_pairs.specs.TaskPairs.{doneMost, beforeMost, blockMost, taskMost, PointRows};
+use body::jumps::jumps;
+use body::masks::unmasked_blocks;
+use body::predecessors::predecessors;
+use body::references;
+use body::walk;
+use cache::blocks::CacheShape;
+use graphs::task_rows::NO_ROWS;
+use pairs::numbers::meet_point;
+use points::done::refer_row;
+use points::left::rests;
+use rows::copy_row;
+
+// The points of a block after each of its references are met, for the row before the block; in the end the row is that after all of them.
+fn meet_done(
+    row: &mut [u16],
+    references: &[u8],
+    shape: CacheShape,
+    w: usize,
+    rests: &[u16],
+    live: &[u16],
+    lived: usize,
+    ends: &[u16],
+    counts: &[usize],
+    unions: &[u32],
+    tasks: usize,
+    numbers: &mut [u16],
+)
+    requires { ⌜ PointRows w shape (now references) (now rests) (now live) lived (now ends) (now counts) (now unions) tasks
+        × (length (now row) ≡ w) × (length (now numbers) ≡ 8) ⌝ }
+    ensures { λ _. ⌜ (now (row .exit) ≡ withReferences (shaped w shape) (now (row .entry)) (referencesIn (now (references .entry))))
+        × Met (λ fs. best (doneMost (shaped w shape) (referencesIn (now (references .entry))) (rowsOf w lived (now (live .entry))) (now (row .entry)) fs)
+        (upFrom 1 (length (now (references .entry)) / 2)))
+        w (now (ends .entry)) (now (counts .entry)) tasks (now (numbers .entry)) (now (numbers .exit)) ⌝ }
+{
+    for i in 0..references.len() / 2 {
+        refer_row(references, i, shape, row);
+        let at = w * (i + 1);
+        meet_point(
+            row,
+            &rests[at..at + w],
+            live,
+            lived,
+            ends,
+            counts,
+            unions,
+            tasks,
+            numbers,
+        );
+    }
+}
+
+// All points of a block are met, for a row before it: after each reference, or the one point of a block that has none.
+fn meet_before(
+    row: &[u16],
+    references: &[u8],
+    shape: CacheShape,
+    w: usize,
+    rests: &[u16],
+    live: &[u16],
+    lived: usize,
+    ends: &[u16],
+    counts: &[usize],
+    unions: &[u32],
+    tasks: usize,
+    numbers: &mut [u16],
+)
+    requires { ⌜ PointRows w shape (now references) (now rests) (now live) lived (now ends) (now counts) (now unions) tasks
+        × (length (now row) ≡ w) × (length (now numbers) ≡ 8) ⌝ }
+    ensures { λ _. ⌜ Met (beforeMost (shaped w shape) (referencesIn (now (references .entry))) (rowsOf w lived (now (live .entry))) (now (row .entry)))
+        w (now (ends .entry)) (now (counts .entry)) tasks (now (numbers .entry)) (now (numbers .exit)) ⌝ }
+{
+    if references.len() < 2 {
+        meet_point(
+            row,
+            &rests[0..w],
+            live,
+            lived,
+            ends,
+            counts,
+            unions,
+            tasks,
+            numbers,
+        );
+        return;
+    }
+    let mut done = [0u16; 32];
+    copy_row(row, &mut done[0..w]);
+    meet_done(
+        &mut done[0..w],
+        references,
+        shape,
+        w,
+        rests,
+        live,
+        lived,
+        ends,
+        counts,
+        unions,
+        tasks,
+        numbers,
+    );
+}
+
+// The same for the first `count` rows.
+fn meet_rows(
+    rows: &[u16],
+    count: usize,
+    references: &[u8],
+    shape: CacheShape,
+    w: usize,
+    rests: &[u16],
+    live: &[u16],
+    lived: usize,
+    ends: &[u16],
+    counts: &[usize],
+    unions: &[u32],
+    tasks: usize,
+    numbers: &mut [u16],
+)
+    requires { ⌜ PointRows w shape (now references) (now rests) (now live) lived (now ends) (now counts) (now unions) tasks
+        × (length (now rows) ≡ 32 * w) × (count ≤ 32) × (length (now numbers) ≡ 8) ⌝ }
+    ensures { λ _. ⌜ Met (blockMost (shaped w shape) (referencesIn (now (references .entry))) (rowsOf w lived (now (live .entry)))
+        (rowsOf w count (now (rows .entry))))
+        w (now (ends .entry)) (now (counts .entry)) tasks (now (numbers .entry)) (now (numbers .exit)) ⌝ }
+{
+    for k in 0..count {
+        let at = w * k;
+        meet_before(
+            &rows[at..at + w],
+            references,
+            shape,
+            w,
+            rests,
+            live,
+            lived,
+            ends,
+            counts,
+            unions,
+            tasks,
+            numbers,
+        );
+    }
+}
+
+// The same for the reaching rows of each of the blocks that is in the set, which are those before the block.
+fn meet_entering(
+    blocks: usize,
+    set: u32,
+    reaching: &[u16],
+    reached: &[usize],
+    references: &[u8],
+    shape: CacheShape,
+    w: usize,
+    rests: &[u16],
+    live: &[u16],
+    lived: usize,
+    ends: &[u16],
+    counts: &[usize],
+    unions: &[u32],
+    tasks: usize,
+    numbers: &mut [u16],
+)
+    requires { ⌜ PointRows w shape (now references) (now rests) (now live) lived (now ends) (now counts) (now unions) tasks
+        × (blocks ≤ 24) × Memory w (now reaching) (now reached) × (length (now numbers) ≡ 8) ⌝ }
+    ensures { λ _. ⌜ Met (blockMost (shaped w shape) (referencesIn (now (references .entry))) (rowsOf w lived (now (live .entry)))
+        (rowsIn set (heldRows w (now (reaching .entry)) (now (reached .entry))) blocks 0))
+        w (now (ends .entry)) (now (counts .entry)) tasks (now (numbers .entry)) (now (numbers .exit)) ⌝ }
+{
+    let part = 32 * w;
+    for p in 0..blocks {
+        if set & (1 << p) != 0 {
+            let at = part * p;
+            meet_rows(
+                &reaching[at..at + part],
+                reached[p],
+                references,
+                shape,
+                w,
+                rests,
+                live,
+                lived,
+                ends,
+                counts,
+                unions,
+                tasks,
+                numbers,
+            );
+        }
+    }
+}
+
+// The points of the block b are met, for each row before it: the empty row before block 0, and the reaching rows of its predecessors, which are the
+// blocks of the set.
+fn meet_block(
+    b: usize,
+    blocks: usize,
+    set: u32,
+    reaching: &[u16],
+    reached: &[usize],
+    references: &[u8],
+    shape: CacheShape,
+    w: usize,
+    live: &[u16],
+    lived: usize,
+    ends: &[u16],
+    counts: &[usize],
+    unions: &[u32],
+    tasks: usize,
+    numbers: &mut [u16],
+)
+    requires { ⌜ Holds w shape × (length (now references) / 2 ≤ 16) × (length (now live) ≡ 32 * w) × (lived ≤ 32)
+        × EndRows w (now ends) (now counts) (now unions) tasks × (blocks ≤ 24) × Memory w (now reaching) (now reached) × (length (now numbers) ≡ 8) ⌝ }
+    ensures { λ _. ⌜ Met (blockMost (shaped w shape) (referencesIn (now (references .entry))) (rowsOf w lived (now (live .entry)))
+        (rowsBefore (shaped w shape) blocks set (heldRows w (now (reaching .entry)) (now (reached .entry))) b))
+        w (now (ends .entry)) (now (counts .entry)) tasks (now (numbers .entry)) (now (numbers .exit)) ⌝ }
+{
+    let room = 17 * w;
+    let mut left = [0u16; 544];
+    rests(references, shape, w, &mut left[0..room]);
+    if b == 0 {
+        meet_before(
+            &NO_ROWS[0..w],
+            references,
+            shape,
+            w,
+            &left[0..room],
+            live,
+            lived,
+            ends,
+            counts,
+            unions,
+            tasks,
+            numbers,
+        );
+    }
+    meet_entering(
+        blocks,
+        set,
+        reaching,
+        reached,
+        references,
+        shape,
+        w,
+        &left[0..room],
+        live,
+        lived,
+        ends,
+        counts,
+        unions,
+        tasks,
+        numbers,
+    );
+}
+
+// The points of the unmasked blocks of the task of a body are met by the end rows of each task; `reached` and `lived` tell how many rows, of w numbers
+// each, a block has, and `counts` how many end rows a task has.
+pub fn meet_task(
+    body: &[u8],
+    shape: CacheShape,
+    w: usize,
+    reaching: &[u16],
+    reached: &[usize],
+    live: &[u16],
+    lived: &[usize],
+    ends: &[u16],
+    counts: &[usize],
+    unions: &[u32],
+    tasks: usize,
+    numbers: &mut [u16],
+)
+    requires { ⌜ (keptOf (decode (now body)) ≡ true) × Holds w shape × Memory w (now reaching) (now reached) × Memory w (now live) (now lived)
+        × EndRows w (now ends) (now counts) (now unions) tasks × (length (now numbers) ≡ 8) ⌝ }
+    ensures { λ _. ⌜ Met (taskMost (shaped w shape) (taskOf (decode (now (body .entry)))) (heldRows w (now (reaching .entry)) (now (reached .entry)))
+        (heldRows w (now (live .entry)) (now (lived .entry))) (length (taskOf (decode (now (body .entry))))) 0)
+        w (now (ends .entry)) (now (counts .entry)) tasks (now (numbers .entry)) (now (numbers .exit)) ⌝ }
+{
+    let walked = walk(body);
+    let blocks = walked.blocks;
+    let starts = walked.starts;
+    let before = predecessors(jumps(body, walked), blocks);
+    let unmasked = unmasked_blocks(body);
+    let part = 32 * w;
+    for b in 0..blocks {
+        if unmasked & (1 << b) != 0 {
+            let at = part * b;
+            meet_block(
+                b,
+                blocks,
+                before[b],
+                reaching,
+                reached,
+                references(body, starts[b]),
+                shape,
+                w,
+                &live[at..at + part],
+                lived[b],
+                ends,
+                counts,
+                unions,
+                tasks,
+                numbers,
+            );
+        }
+    }
+}
