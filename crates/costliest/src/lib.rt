@@ -33,8 +33,8 @@ use reader::read_bodies;
 use reader::task_body;
 use run_sheet::write_sheet;
 
-// The fewest numbers of a lent sheet (check 19). The longest sheet that is written has as many: task, path length and 1,536 blocks at most, count,
-// position, references done, task, path length and 768 blocks at most.
+// The fewest numbers of a lent sheet (check 19). No sheet that is written has more: task, path length and 1,536 blocks at most, count, position,
+// references done, task, path length and 768 blocks at most.
 pub const COSTLIEST_SHEET_LENGTH: usize = 2311;
 
 // Checks 18 and 19, in a file of this many tasks.
