@@ -15,7 +15,7 @@
  *
  * Threads. The calls keep nothing between them, take nothing from the heap and call nothing outside the archive but
  * memcpy and memset, so they may run in several threads at once, on lists that no other thread writes meanwhile.
- * Measured on small and large files alike, crpd_costliest_run takes about 37 KiB of stack, crpd_table about 21 KiB and
+ * Measured on small and large files alike, crpd_costliest_run takes about 51 KiB of stack, crpd_table about 22 KiB and
  * each other call about 9 KiB at most; no proof bounds it.
  */
 #ifndef CRPD_H
