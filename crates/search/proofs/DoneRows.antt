@@ -1,11 +1,9 @@
 -- The row of a point from the row before its block, in the code's words: a turn of the loop that makes its references, and the row in a room that is
 -- lent.
-use mathlib.Core.Path.{_≡_, refl, sym, ap, _∙_}
-use mathlib.Core.List.{List, [], _∷_}
+use mathlib.Core.Path.{_≡_, refl, ap, _∙_}
+use mathlib.Core.List.{List}
 use Prim.Native.Nat.{ℕ, _+_, _<_}
-use native.Mathlib.Numerals.{add-one}
 use lib.ListN.{length, getD, take}
-use lib.Seq.{take-suc}
 use Rattle.cache.specs.declared.blocks.CacheShape.{CacheShape}
 use Rattle.cache.specs.Shape.{shaped}
 use Rattle.cache.specs.Cache.{withReference, withReferences}

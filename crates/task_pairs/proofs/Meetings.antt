@@ -3,18 +3,17 @@
 use mathlib.Core.Path.{_≡_, refl, sym, ap, ap₂, _∙_}
 use mathlib.Core.Bool.{Bool, true, false, cond}
 use mathlib.Core.List.{List, [], _∷_, _++_, append-nil, append-assoc}
-use Prim.Native.Nat.{ℕ, zero, suc, _+_, _-_, _*_, _/_, _≤_, _<_, max}
+use Prim.Native.Nat.{ℕ, zero, suc, _+_, _-_, _*_, _≤_, _<_, max}
 use native.Mathlib.Nat.{zero-add, add-zero}
 use native.Mathlib.Numerals.{add-one}
 use native.Mathlib.Omega.{arith}
-use lib.ListN.{length, getD, take, drop, length-drop}
-use lib.Seq.{take-suc, take-length, length-take-le}
+use lib.ListN.{length, take, drop, length-drop}
+use lib.Seq.{length-take-le}
 use borrow.Author.Tests.{eq-eqb, ne-eqb}
 use borrow.Rule.Slice.PartMut.{putMid}
 use Rattle.cache.specs.References.{numbers}
-use Rattle.cache.specs.Cache.{Cache, emptyRow, withReference, withReferences}
+use Rattle.cache.specs.Cache.{Cache, emptyRow, withReferences}
 use Rattle.cache.specs.Sets.{inSet}
-use Rattle.cache.proofs.Rows.{withReferences-append}
 use Rattle.cache.proofs.NumberLaws.{length-numbers}
 use Rattle.model.specs.Lists.{best}
 use Rattle.model.specs.Tasks.{Block, Task, block}
