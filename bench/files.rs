@@ -352,6 +352,91 @@ pub fn refused_sheets() -> Vec<(Vec<u8>, Vec<u16>)> {
     vec![(largest(), long), (largest(), broken), (largest_masked(), late)]
 }
 
+/// The numbers of a nested run of task j, within runs of the tasks `around`. Its list has as many runs as the first of `counts` says, spread over
+/// its path, each in the middle of its block, by the tasks that aren't around in turn; the other counts are those of the lists within.
+fn nested(tasks: &[(Vec<Block>, Vec<u16>)], around: &[usize], j: usize, counts: &[usize]) -> Vec<u16> {
+    let (blocks, path) = &tasks[j];
+    let (count, inner) = counts.split_first().map_or((0, counts), |(count, inner)| (*count, inner));
+    let around = [around, &[j]].concat();
+    let others: Vec<usize> = (0..tasks.len()).filter(|other| !around.contains(other)).collect();
+    let mut numbers = [&[j as u16, path.len() as u16], path.as_slice(), &[count as u16]].concat();
+    for k in 0..count {
+        let position = k * path.len() / count;
+        let (_, references) = &blocks[path[position] as usize];
+        numbers.extend([position as u16, references.len().div_ceil(2) as u16]);
+        numbers.extend(nested(tasks, &around, others[k % others.len()], inner));
+    }
+    numbers
+}
+
+/// For the tiny file: two blocks and one preempting run.
+pub fn tiny_nested() -> Vec<u16> {
+    vec![0, 2, 0, 0, 1, 0, 2, 1, 2, 0, 1, 0]
+}
+
+/// For the typical file, and for the files that are refused early: 21 runs down to depth 3.
+pub fn typical_nested() -> Vec<u16> {
+    let tasks: Vec<_> = (0..4).map(|j| (forks(8, j, 2 + j % 2, 2), path(2 + j % 2, 2, 64))).collect();
+    nested(&tasks, &[], 0, &[4, 2, 1])
+}
+
+/// For the largest file, with paths of at most `most` blocks.
+fn largest_nested(most: usize, counts: &[usize]) -> Vec<u16> {
+    let tasks: Vec<_> = (0..8).map(|j| (forks(16, j, 5, 6), path(5, 6, most))).collect();
+    nested(&tasks, &[], 0, counts)
+}
+
+/// For the largest file: 16 runs at depth 1.
+pub fn wide_nested() -> Vec<u16> {
+    largest_nested(64, &[16])
+}
+
+/// For the largest file: one run at each depth.
+pub fn deep_nested() -> Vec<u16> {
+    largest_nested(64, &[1; 7])
+}
+
+/// For the largest file: 79 runs down to depth 7.
+pub fn branching_nested() -> Vec<u16> {
+    largest_nested(64, &[2, 2, 2, 2, 1, 1, 1])
+}
+
+/// For the largest file: 49 runs of nearly 1,536 blocks each.
+pub fn longest_nested() -> Vec<u16> {
+    largest_nested(1536, &[16, 1, 1])
+}
+
+/// For the largest file: 273 runs of one round each.
+pub fn short_nested() -> Vec<u16> {
+    largest_nested(19, &[16, 16])
+}
+
+/// For the file of full blocks: 21 runs.
+pub fn full_blocks_nested() -> Vec<u16> {
+    let tasks: Vec<_> = (0..8).map(|j| (full(16, j), path(5, 6, 64))).collect();
+    nested(&tasks, &[], 0, &[4, 2, 1])
+}
+
+/// Files of the largest kind with a nested sheet each, with the fault at the end: a number too many, which fails check 12, a last path that
+/// doesn't end in the end block, which fails check 13, a last run that comes in a masked end block, which fails check 16, and a count above 0
+/// at depth 7, which fails check 20.
+pub fn refused_nested() -> Vec<(Vec<u8>, Vec<u16>)> {
+    let mut long = wide_nested();
+    long.push(0);
+    let mut broken = wide_nested();
+    let last = broken.len() - 2;
+    broken[last] = 1;
+    let mut late = wide_nested();
+    let length = late[1] as usize;
+    let last_position = late.len() - length - 5;
+    late[last_position] = length as u16 - 1;
+    late[last_position + 1] = 1;
+    let mut deep = deep_nested();
+    let last = deep.len() - 1;
+    deep[last] = 1;
+    vec![(largest(), long), (largest(), broken), (largest_masked(), late), (largest(), deep)]
+}
+
 /// What the writer takes: n, the joined bodies, their lengths, and the length of the out list.
 pub struct Parts {
     pub n: u8,

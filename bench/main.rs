@@ -8,9 +8,10 @@ use files::Parts;
 use std::hint::black_box;
 use std::time::Instant;
 
-/// The checks that an input of its own fails: on files, on sheets, of the writer, and of the costliest run.
+/// The checks that an input of its own fails: on files, on sheets, on nested sheets, of the writer, and of the costliest run.
 const FILE_CHECKS: [u8; 8] = [2, 3, 4, 5, 6, 7, 8, 9];
 const SHEET_CHECKS: [u8; 3] = [12, 13, 16];
+const NESTED_CHECKS: [u8; 4] = [12, 13, 16, 20];
 const WRITER_CHECKS: [u8; 6] = [5, 6, 7, 8, 9, 14];
 const RUN_CHECKS: [u8; 2] = [18, 19];
 
@@ -155,6 +156,38 @@ fn replay(lines: &mut Lines) {
     }
 }
 
+/// The accepted inputs of Nested replay.
+fn accepted_nested() -> Vec<(String, Replayed)> {
+    vec![
+        ("tiny".to_string(), (files::tiny(), files::tiny_nested())),
+        ("typical".to_string(), (files::typical(), files::typical_nested())),
+        ("typical, library".to_string(), (files::typical_library(), files::typical_nested())),
+        ("wide".to_string(), (files::largest(), files::wide_nested())),
+        ("deep".to_string(), (files::largest(), files::deep_nested())),
+        ("branching".to_string(), (files::largest(), files::branching_nested())),
+        ("longest paths".to_string(), (files::largest(), files::longest_nested())),
+        ("short paths".to_string(), (files::largest(), files::short_nested())),
+        ("full blocks".to_string(), (files::full_blocks(), files::full_blocks_nested())),
+    ]
+}
+
+fn nested_classes() -> Vec<(String, Replayed)> {
+    let early = files::refused_early().into_iter().map(|file| (file, files::typical_nested()));
+    let mut classes = accepted_nested();
+    classes.extend(refused_by(&FILE_CHECKS).zip(early));
+    classes.extend(refused_by(&NESTED_CHECKS).zip(files::refused_nested()));
+    classes
+}
+
+fn nested(lines: &mut Lines) {
+    lines.heading("Nested replay");
+    for (name, input) in &nested_classes() {
+        let (file, sheet) = input;
+        assert_eq!(plain::nested(file, sheet), proved::nested(file, sheet), "{name}");
+        lines.line(name, input, |(file, sheet)| plain::nested(file, sheet), |(file, sheet)| proved::nested(file, sheet));
+    }
+}
+
 fn write_classes() -> Vec<(String, Parts)> {
     let mut classes = vec![
         ("tiny".to_string(), files::parts(&files::tiny())),
@@ -256,6 +289,8 @@ fn refused_as_meant() {
     assert_eq!(plain::states(&file, files::last_task(&file), &mut [0; AREA_LENGTH]), Err((11, 7)));
     let failed: Vec<u8> = files::refused_sheets().iter().map(|(f, s)| plain::replay(f, s).unwrap_err().0).collect();
     assert_eq!(failed, SHEET_CHECKS);
+    let failed: Vec<u8> = files::refused_nested().iter().map(|(f, s)| plain::nested(f, s).unwrap_err().0).collect();
+    assert_eq!(failed, NESTED_CHECKS);
     let failed: Vec<u8> = files::refused_parts()
         .iter()
         .map(|p| plain::write(p.n, &p.bodies, &p.lengths, &mut vec![0; p.room]).unwrap_err().0)
@@ -279,6 +314,12 @@ fn accepted_as_meant() {
         let (parts, mut out) = (files::parts(file), vec![0; file.len()]);
         assert_eq!(plain::write(parts.n, &parts.bodies, &parts.lengths, &mut out), Ok(file.len()));
         assert_eq!(&out, file);
+    }
+    for (_, (file, sheet)) in accepted_nested() {
+        // with the list of the outer run left out there are fewer misses
+        let end = 3 + sheet[1] as usize;
+        let alone = [&sheet[..end - 1], &[0]].concat();
+        assert!(plain::nested(&file, &alone).unwrap() < plain::nested(&file, &sheet).unwrap());
     }
     let table = |file: &[u8]| {
         let mut numbers = [0; TABLE_LENGTH];
@@ -308,7 +349,7 @@ fn main() {
     refused_as_meant();
     accepted_as_meant();
     let mut lines = Lines::default();
-    for call in [table, states, replay, write, microseconds, costliest_run] {
+    for call in [table, states, replay, nested, write, microseconds, costliest_run] {
         call(&mut lines);
         println!();
     }

@@ -15,6 +15,10 @@ pub fn replay(file: &[u8], sheet: &[u16]) -> Result<(u32, u32, u32), plain::Refu
     Ok((undisturbed, disturbed, lost))
 }
 
+pub fn nested(file: &[u8], sheet: &[u16]) -> Result<u64, plain::Refusal> {
+    crpd::nested(file, sheet).map_err(Refusal::numbers)
+}
+
 pub fn write(n: u8, bodies: &[u8], lengths: &[usize], out: &mut [u8]) -> Result<usize, plain::Refusal> {
     crpd::write(n, bodies, lengths, out).map_err(Refusal::numbers)
 }

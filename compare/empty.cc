@@ -23,6 +23,7 @@ static const size_t lengths[] = {10, 7};
 static uint8_t *const no_bytes = NULL;
 static uint16_t *const no_numbers = NULL;
 static uint32_t *const no_words = NULL;
+static uint64_t *const no_totals = NULL;
 static size_t *const no_counts = NULL;
 
 static void read_and_body()
@@ -77,6 +78,15 @@ static void replay_and_write()
     expect("write, answer", CRPD_CHECK_LENGTHS, crpd_write(2, bodies, 17, lengths, 2, out, sizeof out, no_counts, 0));
 }
 
+static void nested()
+{
+    const uint16_t sheet[] = {0, 1, 0, 0};
+    uint64_t answer[CRPD_NESTED_LENGTH];
+    expect("nested, file", CRPD_CHECK_FILE_LENGTH, crpd_nested(no_bytes, 0, sheet, 4, answer, CRPD_NESTED_LENGTH));
+    expect("nested, sheet", CRPD_CHECK_SHEET, crpd_nested(e, sizeof e, no_numbers, 0, answer, CRPD_NESTED_LENGTH));
+    expect("nested, answer", CRPD_CHECK_LENGTHS, crpd_nested(e, sizeof e, sheet, 4, no_totals, 0));
+}
+
 static void microseconds()
 {
     expect("microseconds, answer", CRPD_CHECK_LENGTHS, crpd_microseconds(1, 1, 1, no_words, 0));
@@ -106,6 +116,7 @@ int main()
     states_and_row();
     table();
     replay_and_write();
+    nested();
     microseconds();
     costliest_run();
     return failed;

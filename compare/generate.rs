@@ -572,3 +572,227 @@ pub fn changed_sheet(random: &mut Random, sheet: &[u16]) -> Vec<u16> {
     }
     changed
 }
+
+/// A run of a nested sheet: its task and path, and the runs that preempt it, each at its point.
+pub struct Nested {
+    pub task: usize,
+    pub path: Vec<u16>,
+    pub list: Vec<(Point, Nested)>,
+}
+
+/// How the runs of a nested sheet lie: one within the other as deep as the tasks allow, many in the outer list, or between.
+#[derive(Clone, Copy)]
+pub enum Nesting {
+    Deep,
+    Wide,
+    Mixed,
+}
+
+impl Nesting {
+    pub const ALL: [Nesting; 3] = [Nesting::Deep, Nesting::Wide, Nesting::Mixed];
+
+    /// How many runs the list of a run at this depth has.
+    fn count(self, random: &mut Random, depth: usize) -> usize {
+        match self {
+            Nesting::Deep => random.pick(&[1, 1, 1, 1, 1, 2]),
+            Nesting::Wide if depth == 0 => random.below(17),
+            Nesting::Wide => random.pick(&[0, 0, 1]),
+            Nesting::Mixed => random.pick(&[0, 0, 1, 1, 2, 3]),
+        }
+    }
+}
+
+/// Where the numbers of a run stand in its sheet, and what they are held against.
+struct Places {
+    /// The position, which the references done follow, and the task, which the path's length follows.
+    point: usize,
+    task: usize,
+    count: usize,
+    /// The tasks of the runs around it, the outer one first.
+    around: Vec<u16>,
+    /// The points of the runs before and after it in the same list.
+    before: Option<Point>,
+    after: Option<Point>,
+    /// The blocks of the path that it preempts, and the references of the block that it comes in.
+    preempted: usize,
+    references: usize,
+}
+
+impl Nested {
+    /// The numbers of the sheet.
+    pub fn numbers(&self) -> Vec<u16> {
+        let mut sheet = vec![self.task as u16, self.path.len() as u16];
+        sheet.extend(&self.path);
+        sheet.push(self.list.len() as u16);
+        for ((position, done), run) in &self.list {
+            sheet.extend([*position, *done]);
+            sheet.extend(run.numbers());
+        }
+        sheet
+    }
+
+    /// The depth of the innermost run.
+    pub fn depth(&self) -> usize {
+        self.list.iter().map(|(_, run)| 1 + run.depth()).max().unwrap_or(0)
+    }
+
+    /// All runs, each with the tasks of the runs around it.
+    pub fn runs(&self) -> Vec<(&Nested, Vec<usize>)> {
+        let mut all = vec![(self, vec![])];
+        let mut next = 0;
+        while next < all.len() {
+            let (run, around) = all[next].clone();
+            let around = [around, vec![run.task]].concat();
+            all.extend(run.list.iter().map(|(_, inner)| (inner, around.clone())));
+            next += 1;
+        }
+        all
+    }
+
+    /// The places of all preempting runs of the sheet, where the list of this run begins at `at`.
+    fn places(&self, tasks: &[Task], around: &[u16], mut at: usize) -> Vec<Places> {
+        let around = [around, &[self.task as u16]].concat();
+        let mut all = Vec::new();
+        for (k, ((position, _), run)) in self.list.iter().enumerate() {
+            let count = at + 4 + run.path.len();
+            all.push(Places {
+                point: at,
+                task: at + 2,
+                count,
+                around: around.clone(),
+                before: k.checked_sub(1).map(|k| self.list[k].0),
+                after: self.list.get(k + 1).map(|&(point, _)| point),
+                preempted: self.path.len(),
+                references: tasks[self.task][self.path[*position as usize] as usize].references.len(),
+            });
+            all.extend(run.places(tasks, &around, count + 1));
+            at += 2 + run.numbers().len();
+        }
+        all
+    }
+}
+
+/// A run that preempts the runs of the tasks `around`, or the outer one, and the runs within it. Where `masked` is set, some run
+/// may come in a masked block, and then it is no longer set.
+fn nested_run(random: &mut Random, tasks: &[Task], around: &[usize], nesting: Nesting, masked: &mut bool) -> Nested {
+    let free: Vec<usize> = (0..tasks.len()).filter(|j| !around.contains(j)).collect();
+    let task = random.pick(&free);
+    let path = path(random, &tasks[task]);
+    let (masked_points, unmasked_points) = points(&tasks[task], &path);
+    let mut chosen: Vec<Point> = Vec::new();
+    if free.len() > 1 {
+        if *masked && !masked_points.is_empty() && !random.one_in(3) {
+            chosen.push(random.pick(&masked_points));
+            *masked = false;
+        }
+        if !unmasked_points.is_empty() {
+            let count = nesting.count(random, around.len());
+            chosen.extend((chosen.len()..count).map(|_| random.pick(&unmasked_points)));
+        }
+    }
+    chosen.sort();
+    let around = [around, &[task]].concat();
+    let list = chosen.into_iter().map(|point| (point, nested_run(random, tasks, &around, nesting, masked))).collect();
+    Nested { task, path, list }
+}
+
+/// A nested run whose sheet Nested replay accepts.
+pub fn nested(random: &mut Random, tasks: &[Task], nesting: Nesting) -> Nested {
+    nested_run(random, tasks, &[], nesting, &mut false)
+}
+
+/// A nested run that is right but for one that comes in a masked block; none where no such point is drawn.
+pub fn masked_nested(random: &mut Random, tasks: &[Task], nesting: Nesting) -> Option<Nested> {
+    let mut masked = true;
+    let run = nested_run(random, tasks, &[], nesting, &mut masked);
+    (!masked).then_some(run)
+}
+
+/// How many ways there are to damage a nested sheet.
+pub const NESTED_DAMAGES: usize = 18;
+
+/// The sheet of a nested run with a fault of the kind asked for, and the check that decides; none where it has no room for that.
+pub fn damaged_nested(random: &mut Random, tasks: &[Task], run: &Nested, kind: usize) -> Option<(Vec<u16>, u8)> {
+    let mut sheet = run.numbers();
+    let outer = 2 + run.path.len();
+    match kind {
+        0 => sheet.truncate(random.below(sheet.len())),
+        1 => sheet.push(random.pick(&[0, 1, 17, 65535])),
+        2 => sheet[0] = random.pick(&[tasks.len() as u16, 8, 65535]),
+        3 => sheet[1] = random.pick(&[0, 1537, 65535]),
+        4 => sheet[outer] = random.pick(&[17, 65535]),
+        _ => {
+            let places = run.places(tasks, &[], outer + 1);
+            if places.is_empty() {
+                return None;
+            }
+            let chosen = random.below(places.len());
+            return damaged_inner(random, tasks, sheet, &places[chosen..], kind);
+        }
+    }
+    Some((sheet, 12))
+}
+
+/// The same with the fault in the numbers of the first of these runs, or after them.
+fn damaged_inner(
+    random: &mut Random, tasks: &[Task], mut sheet: Vec<u16>, places: &[Places], kind: usize,
+) -> Option<(Vec<u16>, u8)> {
+    let here = &places[0];
+    let missing = random.pick(&[tasks.len() as u16, 8, 65535]);
+    let enclosing = random.pick(&here.around);
+    let (place, number, check) = match kind {
+        5 => (here.task, missing, 12),
+        6 => (here.task, enclosing, 20),
+        7 => (here.task + 1, random.pick(&[0, 1537, 65535]), 12),
+        8 => (here.count, random.pick(&[17, 65535]), 12),
+        // the innermost run has a list
+        9 if here.around.len() == 7 => (here.count, 1 + random.below(16) as u16, 20),
+        10 => (here.point, random.pick(&[here.preempted as u16, 1536, 65535]), 12),
+        // a position below the one before it, or the same and fewer references done
+        11 => (here.point, here.before?.0.checked_sub(1)?, 12),
+        12 => {
+            sheet[here.point] = here.before?.0;
+            (here.point + 1, here.before?.1.checked_sub(1)?, 12)
+        }
+        // a wrong number of references, in order with those around it
+        13 if here.after.is_none_or(|(position, _)| position > sheet[here.point]) => {
+            (here.point + 1, random.pick(&[here.references as u16 + 1, 255, 65535]), 13)
+        }
+        14 if here.references > 0 && here.before.is_none_or(|(position, _)| position < sheet[here.point]) => (here.point + 1, 0, 13),
+        15 => (here.task + 2 + random.below(sheet[here.task + 1] as usize), random.pick(&[24, 256, 65535]), 13),
+        // of two faults the first decides: a task within itself, and then one that isn't there, or the sheet's end
+        16 => {
+            match places.get(1 + random.below(places.len())) {
+                Some(later) => sheet[later.task] = missing,
+                None => sheet.truncate(here.task + 1 + random.below(sheet.len() - here.task)),
+            }
+            (here.task, enclosing, 20)
+        }
+        17 => {
+            let later = &places[1..];
+            let later = later.get(random.below(later.len().max(1)))?;
+            sheet[later.task] = random.pick(&later.around);
+            (here.task, missing, 12)
+        }
+        _ => return None,
+    };
+    sheet[place] = number;
+    Some((sheet, check))
+}
+
+/// Eight tasks of a few blocks without masks, which share memory blocks in some cache blocks: room for runs of every depth.
+pub fn tower(random: &mut Random) -> Made {
+    let n = 2 + random.below(8);
+    let small = |m: u16| vec![block(&[1], &[m, 40]), block(&[0, 2], &[41, m + 1]), block(&[], &[m + 2])];
+    Made { n: n as u8, tasks: (0..8).map(|i| small(3 * i)).collect() }
+}
+
+/// The sheet of `loop_sheet` as a nested one: no run of its list has a list.
+pub fn nested_loop_sheet(length: usize, count: usize, other: usize) -> Vec<u16> {
+    let mut sheet = [vec![0, length as u16], vec![0; length], vec![count as u16]].concat();
+    for k in 0..count {
+        sheet.extend([k.min(length - 1) as u16, 2, 1, other as u16]);
+        sheet.extend(vec![0; other + 1]);
+    }
+    sheet
+}

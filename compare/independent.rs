@@ -1,4 +1,4 @@
-//! Document 01 with Points 1 to 3, 5 and 6 of document 02 once more, in plain Rust: by paths, and with sets of rows. Written from
+//! Document 01 with Points 1 to 3 and 5 to 7 of document 02 once more, in plain Rust: by paths, and with sets of rows. Written from
 //! the documents alone, to compare with.
 use std::collections::BTreeSet;
 
@@ -10,6 +10,9 @@ const COUNTS: usize = 24576;
 const MOST_STATES: usize = 32;
 /// The most blocks of a path of a sheet.
 const LONGEST_PATH: u16 = 1536;
+/// The most runs of a list of a nested sheet, and the depth of the innermost run, where the outer one has depth 0.
+const LONGEST_LIST: u16 = 16;
+const DEEPEST: usize = 7;
 /// The least length of the sheet of the costliest run.
 pub const COSTLIEST_SHEET: usize = 2311;
 
@@ -469,6 +472,155 @@ fn counts(project: &Project, sheet: &Sheet) -> (u32, u32, u32) {
 pub fn replay(file: &[u8], sheet: &[u16]) -> Result<(u32, u32, u32), Refusal> {
     let project = read(file)?;
     Ok(counts(&project, &checked(&project, sheet)?))
+}
+
+/// A run of a nested sheet, and where it comes in: the run that it preempts, by its place in the sheet's order, and the point.
+struct NestedRun {
+    path: Path,
+    preempts: Option<(usize, u16, u16)>,
+    /// The runs of its own list that are still to begin, and the point of the last one that began.
+    to_come: u16,
+    last: (u16, u16),
+}
+
+/// What the next number of a nested sheet is.
+enum Next {
+    Task,
+    Length,
+    /// A block, with this many to come.
+    Block(u16),
+    Count,
+    Position,
+    /// The references done at this position.
+    Done(u16),
+    /// The sheet is at its end.
+    Nothing,
+}
+
+/// A nested sheet, number by number.
+struct NestedReader {
+    runs: Vec<NestedRun>,
+    /// The runs that the next number lies in, the outer one first.
+    open: Vec<usize>,
+    next: Next,
+}
+
+impl NestedReader {
+    fn innermost(&mut self) -> &mut NestedRun {
+        let place = self.open[self.open.len() - 1];
+        &mut self.runs[place]
+    }
+
+    /// Where a list begins or a run ends: the innermost list that has a run to come goes on.
+    fn goes_on(&mut self) -> Next {
+        while self.open.last().is_some_and(|&run| self.runs[run].to_come == 0) {
+            self.open.pop();
+        }
+        if self.open.is_empty() { Next::Nothing } else { Next::Position }
+    }
+
+    /// Takes the next number, or answers the check that it is against: 12 goes before 20.
+    fn take(&mut self, x: u16, t: usize) -> Result<(), u8> {
+        self.next = match self.next {
+            Next::Task if x as usize >= t => return Err(12),
+            Next::Task if self.open.iter().any(|&run| self.runs[run].path.task == x as usize) => return Err(20),
+            Next::Task => {
+                let preempts = self.open.last().map(|&run| (run, self.runs[run].last.0, self.runs[run].last.1));
+                self.open.push(self.runs.len());
+                let path = Path { task: x as usize, blocks: Vec::new() };
+                self.runs.push(NestedRun { path, preempts, to_come: 0, last: (0, 0) });
+                Next::Length
+            }
+            Next::Length if !(1..=LONGEST_PATH).contains(&x) => return Err(12),
+            Next::Length => Next::Block(x),
+            Next::Block(left) => {
+                self.innermost().path.blocks.push(x);
+                if left == 1 { Next::Count } else { Next::Block(left - 1) }
+            }
+            Next::Count if x > LONGEST_LIST => return Err(12),
+            Next::Count if x > 0 && self.open.len() > DEEPEST => return Err(20),
+            Next::Count => {
+                self.innermost().to_come = x;
+                self.goes_on()
+            }
+            Next::Position => {
+                let run = self.innermost();
+                if x as usize >= run.path.blocks.len() || x < run.last.0 {
+                    return Err(12);
+                }
+                Next::Done(x)
+            }
+            Next::Done(position) => {
+                let run = self.innermost();
+                if (position, x) < run.last {
+                    return Err(12);
+                }
+                run.last = (position, x);
+                run.to_come -= 1;
+                Next::Task
+            }
+            Next::Nothing => return Err(12),
+        };
+        Ok(())
+    }
+}
+
+/// Checks 12 and 20: the runs of a nested sheet, in its order.
+fn read_nested(sheet: &[u16], t: usize) -> Result<Vec<NestedRun>, u8> {
+    let mut reader = NestedReader { runs: Vec::new(), open: Vec::new(), next: Next::Task };
+    for &x in sheet {
+        reader.take(x, t)?;
+    }
+    if matches!(reader.next, Next::Nothing) { Ok(reader.runs) } else { Err(12) }
+}
+
+/// Checks 13 and 16, each over all runs.
+fn check_nested(project: &Project, runs: &[NestedRun]) -> Result<(), u8> {
+    if !runs.iter().all(|run| is_complete_path(&run.path, &project.tasks)) {
+        return Err(13);
+    }
+    // the block that each preempting run comes in, and the references done there
+    let points = || runs.iter().filter_map(|run| run.preempts).map(|(preempted, position, done)| {
+        let Path { task, blocks } = &runs[preempted].path;
+        (&project.tasks[*task][blocks[position as usize] as usize], done as usize)
+    });
+    if points().any(|(block, done)| !(block.references.len().min(1)..=block.references.len()).contains(&done)) {
+        return Err(13);
+    }
+    if points().any(|(block, _)| block.masked) {
+        return Err(16);
+    }
+    Ok(())
+}
+
+/// All references of a nested run in order. A run stands in the sheet before those that preempt it, so the last run comes first.
+fn nested_references(project: &Project, runs: &[NestedRun]) -> Vec<u16> {
+    let mut all = vec![Vec::new(); runs.len()];
+    for (place, run) in runs.iter().enumerate().rev() {
+        let mut references = Vec::new();
+        for (position, &block) in run.path.blocks.iter().enumerate() {
+            let own = &project.tasks[run.path.task][block as usize].references;
+            for done in own.len().min(1)..=own.len() {
+                references.extend(own[..done].last());
+                let here = Some((place, position as u16, done as u16));
+                for coming in (place + 1..runs.len()).filter(|&coming| runs[coming].preempts == here) {
+                    references.append(&mut all[coming]);
+                }
+            }
+        }
+        all[place] = references;
+    }
+    all.swap_remove(0)
+}
+
+/// Nested replay: the misses of all runs.
+pub fn nested(file: &[u8], sheet: &[u16]) -> Result<u64, Refusal> {
+    let project = read(file)?;
+    let runs = read_nested(sheet, project.tasks.len()).map_err(|check| (check, 255))?;
+    check_nested(&project, &runs).map_err(|check| (check, 255))?;
+    let mut cache = [NOTHING; 16];
+    let misses = nested_references(&project, &runs).into_iter().filter(|&m| !hits(&mut cache, m, project.n)).count();
+    Ok(misses as u64)
 }
 
 /// An accepted file with the rows of each task, none for a task by check 11.

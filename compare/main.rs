@@ -4,8 +4,8 @@ mod independent;
 
 use crpd::{calls, Head, Misses, Refusal, Time};
 use generate::{
-    changed_sheet, crowded, damaged, damaged_sheet, longest, loop_sheet, loops, made, masked_sheet, sheet, Made, Random,
-    DAMAGES,
+    changed_sheet, crowded, damaged, damaged_nested, damaged_sheet, longest, loop_sheet, loops, made, masked_nested,
+    masked_sheet, nested, nested_loop_sheet, sheet, tower, Made, Nested, Nesting, Random, DAMAGES, NESTED_DAMAGES,
 };
 use independent::{Analysed, Block, Cost, AREA, COSTLIEST_SHEET};
 use std::collections::{BTreeMap, BTreeSet};
@@ -18,6 +18,12 @@ const OLD_BYTE: u8 = 0xA5;
 const OLD_NUMBER: u16 = 0xA55A;
 const OLD_WIDE: u32 = 0xA55A_A55A;
 const OLD_COUNT: usize = 0xA55A_A55A;
+const OLD_TOTAL: u64 = 0xA55A_A55A_A55A_A55A;
+/// Bounds of nested runs, by the depth of the innermost run.
+const NESTED_BOUNDS: [&str; 8] = [
+    "nested, depth 0", "nested, depth 1", "nested, depth 2", "nested, depth 3", "nested, depth 4", "nested, depth 5",
+    "nested, depth 6", "nested, depth 7",
+];
 
 /// How many cases each call met by check, and the smallest difference.
 #[derive(Default)]
@@ -372,6 +378,112 @@ fn compare_runs(report: &mut Report, random: &mut Random, made: &Made, file: &[u
     compare_replay(report, file, &sheet, random.pick(&[0, 1, 2, 3, 5]));
 }
 
+/// The answer that the call left is handed back.
+fn compare_nested(report: &mut Report, file: &[u8], sheet: &[u16], places: usize) -> Vec<u64> {
+    let mut found = vec![OLD_TOTAL; places];
+    let status = calls::nested(file, sheet, &mut found);
+    let (mut check, mut expected) = (1, vec![OLD_TOTAL; places]);
+    let mut faults = vec![];
+    if places == 2 {
+        let answer = independent::nested(file, sheet);
+        check = told(&answer).0;
+        expected = vec![told(&answer).1.into(), answer.unwrap_or(0)];
+        faults.push(differ("result", &[answer], &[crpd::nested(file, sheet).map_err(Refusal::numbers)]));
+    }
+    faults.extend([differ("status", &[check], &[status]), differ("answer", &expected, &found)]);
+    report.add("crpd_nested", check, file, format!("sheet {sheet:?}, answer of {places}"), faults);
+    found
+}
+
+/// A nested sheet that was made to fail this check; the independent implementation has to give it too.
+fn compare_nested_refused(report: &mut Report, file: &[u8], sheet: &[u16], check: u8) {
+    compare_nested(report, file, sheet, 2);
+    let found = told(&independent::nested(file, sheet));
+    report.add("broken nested", check, file, format!("{sheet:?}"), vec![differ("status", &[(check, 255)], &[found])]);
+}
+
+/// What the table allows a nested run: each run's misses alone, and for each preempting run its numbers against the runs around it.
+fn nested_bound(file: &[u8], run: &Nested, table: &[u16]) -> u64 {
+    let alone = |run: &Nested| {
+        let sheet = Nested { task: run.task, path: run.path.clone(), list: vec![] }.numbers();
+        independent::replay(file, &sheet).map_or(0, |(alone, _, _)| u64::from(alone))
+    };
+    let against = |j: usize, around: &[usize]| around.iter().map(|i| u64::from(table[8 * i + j])).sum::<u64>();
+    run.runs().iter().map(|(inner, around)| alone(inner) + against(inner.task, around)).sum()
+}
+
+/// A nested run of a file, and its sheet with each kind of fault; its misses are no more than the proved table allows.
+fn compare_nesting(report: &mut Report, random: &mut Random, made: &Made, nesting: Nesting, table: &[u16]) {
+    let file = made.file();
+    let run = nested(random, &made.tasks, nesting);
+    let sheet = run.numbers();
+    let answer = compare_nested(report, &file, &sheet, 2);
+    if filled(table) {
+        let bound = nested_bound(&file, &run, table);
+        let fault = (answer[1] > bound).then(|| format!("{answer:?}, and the bound is {bound}"));
+        report.add(NESTED_BOUNDS[run.depth()], 0, &file, format!("{sheet:?}"), vec![fault]);
+    }
+    let masked = masked_nested(random, &made.tasks, nesting);
+    if let Some(masked) = &masked {
+        compare_nested_refused(report, &file, &masked.numbers(), 16);
+    }
+    // 12, 20 and 13 go before 16
+    for run in [Some(run), masked].iter().flatten() {
+        for kind in 0..NESTED_DAMAGES {
+            if let Some((broken, check)) = damaged_nested(random, &made.tasks, run, kind) {
+                compare_nested_refused(report, &file, &broken, check);
+            }
+        }
+    }
+    for _ in 0..4 {
+        compare_nested(report, &file, &changed_sheet(random, &sheet), 2);
+    }
+    compare_nested(report, &file, &sheet, random.pick(&[0, 1, 3, 4]));
+}
+
+/// Runs of every depth, and their sheets cut off at every place.
+fn compare_towers(report: &mut Report) {
+    for seed in 0..60 {
+        let mut random = Random::new(seed);
+        let made = tower(&mut random);
+        let file = made.file();
+        let table = compare_table(report, &file, AREA, 64, 1);
+        for nesting in Nesting::ALL {
+            for _ in 0..10 {
+                compare_nesting(report, &mut random, &made, nesting, &table);
+            }
+            let sheet = nested(&mut random, &made.tasks, nesting).numbers();
+            for end in 0..sheet.len() {
+                compare_nested_refused(report, &file, &sheet[..end], 12);
+            }
+        }
+    }
+}
+
+/// Nested sheets with a length or a count at its limit or next to it, and all short ones of a few numbers.
+fn compare_nested_limits(report: &mut Report) {
+    for file in [loops(false).file(), loops(true).file()] {
+        for length in [1, 2, 1535, 1536, 1537] {
+            for count in [0, 1, 15, 16, 17] {
+                for other in [1, 1536, 1537] {
+                    compare_nested(report, &file, &nested_loop_sheet(length, count, other), 2);
+                }
+            }
+        }
+    }
+    let numbers = [0, 1, 2, 17];
+    let two = loops(false).file();
+    let one = Made { n: 1, tasks: vec![vec![block(&[0], &[])]] }.file();
+    let mut sheets = vec![vec![]];
+    for _ in 0..7 {
+        for sheet in &sheets {
+            compare_nested(report, &two, sheet, 2);
+            compare_nested(report, &one, sheet, 2);
+        }
+        sheets = sheets.iter().flat_map(|sheet| numbers.map(|x| [sheet.as_slice(), &[x]].concat())).collect();
+    }
+}
+
 fn compare_microseconds(report: &mut Report, number: u32, penalty: u32, clock: u32, places: usize) {
     let mut found = vec![OLD_WIDE; places];
     let status = calls::microseconds(number, penalty, clock, &mut found);
@@ -537,7 +649,7 @@ fn compare_sheet_limits(report: &mut Report) {
     }
 }
 
-/// The examples of document 01, the same file with flags, and examples of Points 2, 3, 5 and 6 hold of the independent
+/// The examples of document 01, the same file with flags, and examples of Points 2, 3 and 5 to 7 hold of the independent
 /// implementation.
 fn examples() {
     let e = Made { n: 2, tasks: vec![vec![block(&[0], &[0, 1])], vec![block(&[], &[2])]] }.file();
@@ -570,6 +682,7 @@ fn examples() {
     assert_eq!(cost(0, 1, 2310), Err((19, 255)));
     shared_examples(&e);
     point_examples(&e);
+    nested_examples(&e);
 }
 
 /// A block without a mask.
@@ -615,6 +728,33 @@ fn point_examples(e: &[u8]) {
     assert_eq!(answers(&entered, &[0, 2, 0, 1, 1, 1, 0, 1, 1, 0]), (0, 0, Err((13, 255))));
 }
 
+/// Nested sheets of E, of a file with one task and of eight tasks of one block, by the readings of Point 7.
+fn nested_examples(e: &[u8]) {
+    assert_eq!(independent::nested(e, &[0, 2, 0, 0, 0]), Ok(2));
+    assert_eq!(independent::nested(e, &[0, 2, 0, 0, 1, 0, 2, 1, 1, 0, 0]), Ok(4));
+    assert_eq!(independent::nested(e, &[0, 2, 0, 0, 1, 0, 3, 1, 1, 0, 0]), Err((13, 255)));
+    assert_eq!(independent::nested(e, &[0, 2, 0, 0, 1, 0, 2, 0, 1, 0, 0]), Err((20, 255)));
+    // the first number at fault decides, and a missing one comes last
+    assert_eq!(independent::nested(e, &[0, 2, 0, 0, 1, 0, 2, 0]), Err((20, 255)));
+    assert_eq!(independent::nested(e, &[0, 2, 0, 0, 1, 2, 2, 0]), Err((12, 255)));
+    assert_eq!(independent::nested(e, &[0, 2, 0, 0, 1, 0, 2, 1, 1, 0, 1, 0, 1, 0]), Err((20, 255)));
+    assert_eq!(independent::nested(e, &[0, 2, 0, 0, 1, 0, 2, 1, 1, 0, 0, 0]), Err((12, 255)));
+    // with one task a count of 1 is no fault yet
+    let one = Made { n: 1, tasks: vec![vec![block(&[], &[])]] }.file();
+    assert_eq!(independent::nested(&one, &[0, 1, 0, 1]), Err((12, 255)));
+    assert_eq!(independent::nested(&one, &[0, 1, 0, 1, 0, 0, 0]), Err((20, 255)));
+    // at depth 7 a count above 0 is check 20, and one above 16 is check 12
+    let eight = Made { n: 1, tasks: (0..8).map(|i| vec![block(&[], &[i])]).collect() }.file();
+    let tower = |last: u16| {
+        let runs = (0..8).map(|i| if i == 7 { [7, 1, 0, last] } else { [i, 1, 0, 1] });
+        runs.collect::<Vec<_>>().join(&[0, 1][..])
+    };
+    assert_eq!(independent::nested(&eight, &tower(0)), Ok(8));
+    for (last, check) in [(1, 20), (16, 20), (17, 12)] {
+        assert_eq!(independent::nested(&eight, &tower(last)), Err((check, 255)));
+    }
+}
+
 /// A valid file: every call with lists of the right length, every task and some that aren't there.
 fn compare_made(report: &mut Report, random: &mut Random, made: &Made, seed: u64) {
     let file = made.file();
@@ -636,6 +776,8 @@ fn compare_made(report: &mut Report, random: &mut Random, made: &Made, seed: u64
     if filled(&table) {
         compare_table_times(report, random, &file, &table);
     }
+    let nesting = random.pick(&Nesting::ALL);
+    compare_nesting(report, random, made, nesting, &table);
     compare_pairs(report, random, &file, made.tasks.len());
     compare_writing(report, random, made);
     if seed % 8 == 0 {
@@ -652,6 +794,7 @@ fn compare_damaged(report: &mut Report, random: &mut Random, made: &Made, seed: 
         if let Some(masked) = masked_sheet(random, &made.tasks) {
             compare_replay(report, &broken, &masked, 4);
         }
+        compare_nested(report, &broken, &nested(random, &made.tasks, Nesting::Mixed).numbers(), 2);
         let asked = Asked::of(random.below(made.tasks.len() + 1), random.below(made.tasks.len() + 1));
         compare_costliest_run(report, &broken, &independent::analyse(&broken), asked);
         compare_broken_bodies(report, made, &broken);
@@ -671,6 +814,8 @@ fn main() {
     compare_made(&mut report, &mut Random::new(0), &whole, 0);
     compare_file(&mut report, &[file.as_slice(), &[0]].concat(), 0);
     compare_sheet_limits(&mut report);
+    compare_nested_limits(&mut report);
+    compare_towers(&mut report);
     compare_times(&mut report);
     for crowded in crowded() {
         compare_pairs(&mut report, &mut Random::new(0), &crowded.file(), crowded.tasks.len());

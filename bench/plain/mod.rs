@@ -2,6 +2,7 @@
 //! Here stands what they share: the reader and the states of a task.
 mod costliest_run;
 mod microseconds;
+mod nested;
 mod replay;
 mod states;
 mod table;
@@ -9,6 +10,7 @@ mod write;
 
 pub use costliest_run::costliest_run;
 pub use microseconds::microseconds;
+pub use nested::nested;
 pub use replay::replay;
 pub use states::states;
 pub use table::table;

@@ -42,14 +42,14 @@ pub fn replay(file: &[u8], sheet: &[u16]) -> Result<(u32, u32, u32), Refusal> {
 }
 
 /// The first number of the rest of a sheet.
-fn take(rest: &mut &[u16]) -> Option<usize> {
+pub(super) fn take(rest: &mut &[u16]) -> Option<usize> {
     let (first, others) = rest.split_first()?;
     *rest = others;
     Some(*first as usize)
 }
 
 /// A path: its length and its blocks.
-fn take_path<'a>(rest: &mut &'a [u16]) -> Option<&'a [u16]> {
+pub(super) fn take_path<'a>(rest: &mut &'a [u16]) -> Option<&'a [u16]> {
     let length = take(rest)?;
     if length < 1 || LONGEST_PATH < length || rest.len() < length {
         return None;
@@ -84,7 +84,7 @@ fn parse(sheet: &[u16], t: usize) -> Option<Run<'_>> {
 }
 
 /// Whether a path goes from the entry to the end of its task.
-fn complete(task: &Task, path: &[u16]) -> bool {
+pub(super) fn complete(task: &Task, path: &[u16]) -> bool {
     path.iter().all(|&b| (b as usize) < task.len())
         && path[0] == 0
         && path[path.len() - 1] as usize == task.len() - 1
@@ -92,7 +92,7 @@ fn complete(task: &Task, path: &[u16]) -> bool {
 }
 
 /// Makes a reference; answers whether it hits.
-fn hits(row: &mut [u16], m: u16) -> bool {
+pub(super) fn hits(row: &mut [u16], m: u16) -> bool {
     let place = &mut row[m as usize % row.len()];
     let hit = *place == m;
     *place = m;

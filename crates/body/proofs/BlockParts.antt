@@ -54,10 +54,6 @@ all-drop P zero s a = a
 all-drop P (suc n) [] a = tt
 all-drop P (suc n) (x ∷ s) a = all-drop P n s (a .1)
 
-pub all-join : (P : ℕ → Type 0) (l r : List ℕ) → All P l → All P r → All P (l ++ r)
-all-join P [] r a b = b
-all-join P (x ∷ l) r a b = (a .0, all-join P l r (a .1) b)
-
 -- ---- the tests of Decode are the bounds of Layout
 
 pub rises-below : (B : ℕ) (l : List ℕ) → risesBelow B l ≡ true → All (λ (s : ℕ). s < B) l × StrictlyRising l

@@ -14,11 +14,11 @@ use Rattle.cache.specs.References.{Real, All, numbers}
 use Rattle.cache.proofs.NumberLaws.{length-numbers as half-numbers}
 use Rattle.model.specs.Lists.{Each}
 use Rattle.model.specs.Tasks.{Block, Task, block, memoryBlocks}
-use Rattle.model.proofs.Membership.{both-left, both-right}
+use Rattle.model.proofs.Membership.{both-left, both-right, all-join}
 use Rattle.model.proofs.Disjoint.{all-map}
 use Rattle.body.specs.Layout.{twoBytes, blocksBytes, bodyBytes, BlockInBounds, InBounds, Layout}
 use Rattle.body.specs.Decode.{Decoded, broken, decoded, withBlock, risesBelow, allReal, blockFrom, blockTest, blocksFrom, decode}
-use Rattle.body.proofs.BlockParts.{length-twoBytes, numbers-twoBytes, length-numbers, twoBytes-numbers, all-take, all-drop, all-join, rises-below, below-rises, all-real, real-all}
+use Rattle.body.proofs.BlockParts.{length-twoBytes, numbers-twoBytes, length-numbers, twoBytes-numbers, all-take, all-drop, rises-below, below-rises, all-real, real-all}
 
 -- ---- a block's bytes, before the bytes r, are read as the block
 

@@ -5,3 +5,4 @@ pub mod Neighbours
 pub mod Times
 mod Sheets
 pub mod CostliestRuns
+pub mod Nested

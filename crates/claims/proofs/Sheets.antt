@@ -13,7 +13,7 @@ use Rattle.sheet.specs.Sheet.{SheetRun, preemptionNumbers, sheetNumbers, sheetR
 use Rattle.replay.proofs.Replays.{replayed}
 use Rattle.claims.specs.Demand.{sheetOf, ReplayAnswers}
 
-append-split : (a b c d : List ℕ) → length a ≡ length c → a ++ b ≡ c ++ d → (a ≡ c) × (b ≡ d)
+pub append-split : (a b c d : List ℕ) → length a ≡ length c → a ++ b ≡ c ++ d → (a ≡ c) × (b ≡ d)
 append-split [] b [] d e q = (refl, q)
 append-split [] b (y ∷ c) d e q = absurd (omega arith)
 append-split (x ∷ a) b [] d e q = absurd (omega arith)

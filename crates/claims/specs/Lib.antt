@@ -4,3 +4,4 @@ pub mod Demand
 pub mod OldTables
 pub mod Times
 pub mod CostliestRuns
+pub mod Nested

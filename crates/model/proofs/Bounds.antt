@@ -75,7 +75,7 @@ module _ (ts : List Task) (p : ℕ) (P Q : ℕ → Type 0) (own-P : (b m : ℕ) 
       parts-run positionOf doneOf (allOf ts) P Q xs (foreign-each path xs h) (task ts p) (λ b. all-in P (block (task ts p) b .references) (own-P b)) 0 path
 
 module _ (ts : List Task) (ok : Rules ts) (p : ℕ) where
-  real-at : (j b m : ℕ) → mem eqb m (block (task ts j) b .references) ≡ true → Real m
+  pub real-at : (j b m : ℕ) → mem eqb m (block (task ts j) b .references) ≡ true → Real m
   real-at j b m e = all-of Real (memoryBlocks (task ts j)) (ok .real j) m (references-in (task ts j) b m e)
 
   -- no reference is the mark for nothing

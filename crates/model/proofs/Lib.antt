@@ -15,6 +15,8 @@ pub mod RunEvents
 pub mod Hits
 pub mod Bounds
 pub mod Demand
+pub mod Woven
+pub mod NestedBound
 pub mod Sorted
 pub mod Width
 pub mod Narrower
@@ -23,4 +25,5 @@ pub mod Examples
 pub mod Neighbours
 pub mod SharedNeighbours
 pub mod PointNeighbours
+pub mod NestedNeighbours
 pub mod OnPath

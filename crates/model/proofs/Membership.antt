@@ -191,6 +191,10 @@ pub all-in : (P : ℕ → Type 0) (ms : List ℕ) → ((m : ℕ) → mem eqb m m
 all-in P [] h = tt
 all-in P (m ∷ ms) h = (h m (or-left (eqb m m) (mem eqb m ms) (eqb-self m)), all-in P ms (λ x e. h x (or-right (eqb x m) (mem eqb x ms) e)))
 
+pub all-join : (P : ℕ → Type 0) (l r : List ℕ) → All P l → All P r → All P (l ++ r)
+all-join P [] r a b = b
+all-join P (x ∷ l) r a b = (a .0, all-join P l r (a .1) b)
+
 pub all-of : (P : ℕ → Type 0) (ms : List ℕ) → All P ms → (m : ℕ) → mem eqb m ms ≡ true → P m
 all-of P [] a m e = absurd (false≢true e)
 all-of P (x ∷ ms) a m e = elim (or-cases (eqb m x) (mem eqb m ms) e) [ inl q ↦ rw (eqb-true m x q) (a .0) | inr q ↦ all-of P ms (a .1) m q ]

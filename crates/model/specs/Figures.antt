@@ -67,3 +67,17 @@ tasksTwice = (basic [] (6 ∷ 6 ∷ []) ∷ []) ∷ (basic [] (4 ∷ []) ∷ [])
 -- n = 1: a masked block reads 6, then a block reads 6; the other task reads 4
 abbrev pub tasksEntered : List Task
 tasksEntered = (masked (1 ∷ []) (6 ∷ []) ∷ basic [] (6 ∷ []) ∷ []) ∷ (basic [] (4 ∷ []) ∷ []) ∷ []
+
+-- ---- document 02, Point 7: interruptions of interruptions
+
+-- n = 2: the tasks of E, and a third task that reads 4
+abbrev pub tasksThree : List Task
+tasksThree = (basic (0 ∷ []) (0 ∷ 1 ∷ []) ∷ []) ∷ (basic [] (2 ∷ []) ∷ []) ∷ (basic [] (4 ∷ []) ∷ []) ∷ []
+
+-- n = 1: a task reads 0 twice, one reads 1, and one reads nothing
+abbrev pub tasksAround : List Task
+tasksAround = (basic [] (0 ∷ 0 ∷ []) ∷ []) ∷ (basic [] (1 ∷ []) ∷ []) ∷ (basic [] [] ∷ []) ∷ []
+
+-- n = 1: an empty block, then a block that reads 4; the other task reads 7
+abbrev pub tasksFilled : List Task
+tasksFilled = (basic (1 ∷ []) [] ∷ basic [] (4 ∷ []) ∷ []) ∷ (basic [] (7 ∷ []) ∷ []) ∷ []

@@ -4,6 +4,7 @@ pub mod States
 pub mod Numbers
 pub mod Runs
 pub mod Demand
+pub mod Nested
 pub mod Order
 pub mod Computed
 pub mod OnPath

@@ -14,7 +14,7 @@ use Rattle.model.specs.Lists.{Each}
 use Rattle.model.specs.Tasks.{Task, Done, references, task}
 use Rattle.model.specs.Runs.{Preemption, NotBefore, countAtEnd, lostAtEnd}
 use Rattle.model.proofs.Events.{Event}
-use Rattle.model.proofs.RunEvents.{allOf}
+use Rattle.model.proofs.RunEvents.{positionOf, doneOf, allOf}
 use Rattle.model.proofs.Membership.{both-left, both-right}
 use Rattle.body.proofs.WalksParts.{part-is}
 use Rattle.project.specs.File.{cacheBlocks, taskCount}
@@ -51,13 +51,17 @@ firstPoint = record { position = 0; done = 0 }
 
 -- ---- what is left of the run where the point `from` is reached and `at` is the next preemption
 
+-- its events from the point (i, d) on, with the preemptions xs
+abbrev events : List ℕ → List ℕ → List Preemption → ℕ → ℕ → List Event
+events s sheet xs i d = segments positionOf doneOf (ownTask s sheet) (runIn s sheet .path) (allOf (tasksOf s)) xs i d
+
 -- both runs to the end, by their segments
 abbrev whole : List ℕ → List ℕ → CacheShape → Both
-whole s sheet shape = bothEvents (shaped 32 shape) (bothFirst (shaped 32 shape)) (segments (tasksOf s) (ownTask s sheet) (runIn s sheet .path) (runIn s sheet .preemptions) 0 0)
+whole s sheet shape = bothEvents (shaped 32 shape) (bothFirst (shaped 32 shape)) (events s sheet (runIn s sheet .preemptions) 0 0)
 
 -- both runs from a point on, with the preemptions xs
 abbrev on-from : List ℕ → List ℕ → CacheShape → Both → PathPoint → List Preemption → Both
-on-from s sheet shape run from xs = bothEvents (shaped 32 shape) run (segments (tasksOf s) (ownTask s sheet) (runIn s sheet .path) xs (from .position) (from .done))
+on-from s sheet shape run from xs = bothEvents (shaped 32 shape) run (events s sheet xs (from .position) (from .done))
 
 -- the part of the own path between two points
 abbrev ownPart : List ℕ → List ℕ → PathPoint → PathPoint → List ℕ
@@ -72,8 +76,8 @@ pub record RunLeft (s sheet : List ℕ) (shape : CacheShape) (run : Both) (from 
   pub numbers-at : drop at sheet ≡ preemptionNumbers left
   pub rules : Each (PreemptionInRules (taskCount s) (runIn s sheet .p) (length (runIn s sheet .path))) left
   pub complete : eachPasses (completeBy (tasksOf s)) left ≡ true
-  pub points : Each (InPath (tasksOf s) (ownTask s sheet) (runIn s sheet .path)) left
-  pub rises : Rises (from .position) (from .done) left
+  pub points : Each (InPath positionOf doneOf (ownTask s sheet) (runIn s sheet .path)) left
+  pub rises : Rises positionOf doneOf (from .position) (from .done) left
   pub in-path : from .position < length (runIn s sheet .path)
   pub done-few : from .done ≤ length (referencesAt (ownTask s sheet) (runIn s sheet .path) (from .position))
   pub few : CountsFit run (length (ownPart s sheet from (ownLast s sheet)))
@@ -85,13 +89,13 @@ pub record RunNext (s sheet : List ℕ) (shape : CacheShape) (run : Both) (from 
   pub rest : List Preemption
   pub places : PreemptionPlaces sheet at first rest
   pub rule : PreemptionInRules (taskCount s) (runIn s sheet .p) (length (runIn s sheet .path)) first
-  pub point : InPath (tasksOf s) (ownTask s sheet) (runIn s sheet .path) first
+  pub point : InPath positionOf doneOf (ownTask s sheet) (runIn s sheet .path) first
   pub order : NotBefore (from .position) (from .done) (first .position) (first .done)
   pub here : completePath (task (tasksOf s) (first .by)) (first .path) ≡ true
   pub rules : Each (PreemptionInRules (taskCount s) (runIn s sheet .p) (length (runIn s sheet .path))) rest
   pub complete : eachPasses (completeBy (tasksOf s)) rest ≡ true
-  pub points : Each (InPath (tasksOf s) (ownTask s sheet) (runIn s sheet .path)) rest
-  pub rises : Rises (first .position) (first .done) rest
+  pub points : Each (InPath positionOf doneOf (ownTask s sheet) (runIn s sheet .path)) rest
+  pub rises : Rises positionOf doneOf (first .position) (first .done) rest
   pub same : on-from s sheet shape run from (first ∷ rest) ≡ whole s sheet shape
 
 -- the path of the preemption at `at`, of m blocks
@@ -138,11 +142,11 @@ module _ (s sheet : List ℕ) (shape : CacheShape) (h : Passed13 s sheet) (block
   some = omega (arith, facts .rules .bounds .some)
 
   -- the points of all preemptions lie in the path
-  all-points : Each (InPath ts tp (r .path)) (r .preemptions)
+  all-points : Each (InPath positionOf doneOf tp (r .path)) (r .preemptions)
   all-points = go (r .preemptions) (facts .rules .each) (all-done ts r .0 (h .done))
     where
       go : (xs : List Preemption) → Each (PreemptionInRules (taskCount s) (r .p) (length (r .path))) xs → Each (λ (x : Preemption). Done (referencesAt tp (r .path) (x .position)) (x .done)) xs
-          → Each (InPath ts tp (r .path)) xs
+          → Each (InPath positionOf doneOf tp (r .path)) xs
       go [] e d = tt
       go (x ∷ xs) e d = ((e .0 .inPath, d .0), go xs (e .1) (d .1))
 
@@ -155,7 +159,7 @@ module _ (s sheet : List ℕ) (shape : CacheShape) (h : Passed13 s sheet) (block
   -- both runs at the end have the counts of the definitions, in rows of as many places as cache blocks
   whole-counts : Counted (whole s sheet shape .undisturbed .count) (whole s sheet shape .disturbed .count) (whole s sheet shape .lost) ≡ countedIn s r
   whole-counts =
-      ap (λ (es : List Event). counted (bothEvents k (bothFirst k) es)) (segments-all ts tp (r .path) (r .preemptions) some (facts .rules .rising) all-points)
+      ap (λ (es : List Event). counted (bothEvents k (bothFirst k) es)) (segments-all positionOf doneOf tp (r .path) (allOf ts) (r .preemptions) some (rises-all (r .preemptions) (facts .rules .rising)) all-points)
       ∙ three (end-undisturbed k ts tp (r .path) (r .preemptions)) (end-disturbed k ts tp (r .path) (r .preemptions)) (end-lost k ts tp (r .path) (r .preemptions))
       ∙ ap (λ (x : CacheShape). Counted (countAtEnd (shaped 32 x) ts tp (r .path) []) (countAtEnd (shaped 32 x) ts tp (r .path) (r .preemptions)) (lostAtEnd (shaped 32 x) ts tp (r .path) (r .preemptions))) blocks
       ∙ three (count-width (cacheBlocks s) 32 blocks-low blocks-high ts tp (r .path) []) (count-width (cacheBlocks s) 32 blocks-low blocks-high ts tp (r .path) (r .preemptions))
@@ -195,7 +199,7 @@ module _ (s sheet : List ℕ) (shape : CacheShape) (h : Passed13 s sheet) (block
     run-next l = go (x .left) (x .numbers-at) (x .rules) (x .complete) (x .points) (x .rises) (x .same)
       where
         go : (xs : List Preemption) → drop at sheet ≡ preemptionNumbers xs → Each (PreemptionInRules (taskCount s) (r .p) (length (r .path))) xs
-            → eachPasses (completeBy ts) xs ≡ true → Each (InPath ts tp (r .path)) xs → Rises (from .position) (from .done) xs
+            → eachPasses (completeBy ts) xs ≡ true → Each (InPath positionOf doneOf tp (r .path)) xs → Rises positionOf doneOf (from .position) (from .done) xs
             → on-from s sheet shape run from xs ≡ whole s sheet shape → RunNext s sheet shape run from at
         go [] d rules c points rises same = absurd (omega (arith, ap length d, length-drop at sheet))
         go (y ∷ ys) d rules c points rises same = record {

@@ -14,7 +14,7 @@ use Rattle.model.specs.Tasks.{task}
 use Rattle.model.specs.Runs.{Preemption, Preempts, DisturbedRun, U, D, lostHits}
 use Rattle.model.specs.Demand.{pairSum}
 use Rattle.model.proofs.Disjoint.{all-map}
-use Rattle.body.proofs.BlockParts.{all-join}
+use Rattle.model.proofs.Membership.{all-join}
 use Rattle.project.specs.declared.answers.Check.{Check}
 use Rattle.project.specs.declared.answers.Check.the-variants.{Passed}
 use Rattle.project.specs.declared.answers.Check.the-variants.{Refused as Failed}
@@ -141,7 +141,8 @@ run-replayed s h run f =
     answer-by s sheet Passed (replay-parts s sheet ∙ rw (accepted-passed s (cacheBlocks s) (taskCount s) (reading s h) .0, q, o .complete, o .right, o .unmasked)) ∙ rw q
 
 module _ (s : List ℕ) (h : accepted (readingOf s) ≡ true) where
-  below : (j : ℕ) (path : List ℕ) → j < length (tasksOf s) → completePath (task (tasksOf s) j) path ≡ true → All (λ (x : ℕ). x < 65536) path
+  -- the blocks of a complete path
+  pub below : (j : ℕ) (path : List ℕ) → j < length (tasksOf s) → completePath (task (tasksOf s) j) path ≡ true → All (λ (x : ℕ). x < 65536) path
   below j path l c =
       all-map (λ b k. omega (arith, task-bounds s j h (rw (tasks-long s) at l) .few)) path (complete-blocks (task (tasksOf s) j) path c)
 

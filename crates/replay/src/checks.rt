@@ -64,7 +64,7 @@ fn all_complete(file: &[u8], sheet: &[u16]) -> bool
 }
 
 // Whether so many references may be done where a preemption comes in the block at a position of a path: from 1 to all, or 0 where it has none.
-fn right_done(body: &[u8], starts: &[usize], path: &[u16], position: usize, done: usize) -> bool
+pub fn right_done(body: &[u8], starts: &[usize], path: &[u16], position: usize, done: usize) -> bool
     requires { ⌜ PathIn (now body) (now starts) (now path) × (position < length (now path)) ⌝ }
     ensures { λ r. ⌜ r ≡ rightDone (referencesAt (taskOf (decode (now (body .entry)))) (now (path .entry)) position) done ⌝ }
 {

@@ -1,5 +1,5 @@
 // Replay: the misses of a run, without and with its preemptions, and the hits that the preemptions cost.
-mod checks;
+pub mod checks;
 mod counts;
 
 ghost use mathlib.Core.Path.{_≡_};

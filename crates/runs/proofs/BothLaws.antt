@@ -17,7 +17,7 @@ use Rattle.runs.specs.Running.{withOwn, Both, both, CountsFit, withBoth,
 use Rattle.runs.specs.Parts.{partAt, PartIn}
 use Rattle.runs.specs.declared.part.PathPoint.{PathPoint}
 use Rattle.runs.proofs.CacheLaws.{next-number, no-number}
-use Rattle.runs.proofs.PartTurns.{partLeft, part-turn, part-end}
+use Rattle.runs.proofs.PartTurns.{partLeft, part-made, part-end}
 
 -- ---- the counts
 
@@ -76,10 +76,7 @@ module _ (k : Cache) (t : Task) (path : List ℕ) (from to : PathPoint) (x : ℕ
   -- the next block of the part
   pub both-part-turn : (bytes : List ℕ) {r : Both} → PartIn t path from to → from .position ≤ x → x ≤ to .position → numbers bytes ≡ partAt t path from to x
       → r ≡ ownBoth k b (numbers bytes) → ownBoth k r (partLeft t path from to (x + 1)) ≡ ownBoth k b (partLeft t path from to x)
-  both-part-turn bytes h l u er en =
-      ap (λ (y : Both). ownBoth k y (partLeft t path from to (x + 1))) (en ∙ ap (ownBoth k b) er)
-      ∙ sym (own-both-append k (partAt t path from to x) (partLeft t path from to (x + 1)) b)
-      ∙ ap (ownBoth k b) (sym (part-turn t path from to h x l u))
+  both-part-turn bytes h l u er en = part-made t path from to h x l u (ownBoth k) (own-both-append k) b bytes er en
 
   pub both-part-end : to .position + 1 ≤ x → b ≡ ownBoth k b (partLeft t path from to x)
   both-part-end h = ap (ownBoth k b) (sym (part-end t path from to x h))

@@ -148,6 +148,12 @@ module _ (t : Task) (path : List ℕ) (from to : PathPoint) where
             ∙ ap (λ (y : List ℕ). between t path x (doneBefore from x) x (length ms) ++ y)
             (between-block t path x (length ms) (to .position) (to .done) l (drop-length ms) ∙ sym next)
 
+    -- a turn of whatever makes references in order: what is left, made from here, gives what was left before
+    pub part-made : {S : Type 0} (make : S → List ℕ → S) → ((a b : List ℕ) (s : S) → make s (a ++ b) ≡ make (make s a) b) → (s : S) (bytes : List ℕ) {r : S}
+        → numbers bytes ≡ partAt t path from to x → r ≡ make s (numbers bytes) → make r (partLeft (x + 1)) ≡ make s (partLeft x)
+    part-made {S} make join s bytes er en =
+        ap (λ (y : S). make y (partLeft (x + 1))) (en ∙ ap (make s) er) ∙ sym (join (partAt t path from to x) (partLeft (x + 1)) s) ∙ ap (make s) (sym part-turn)
+
     -- how many references are left
     pub part-room : (bytes : List ℕ) → numbers bytes ≡ partAt t path from to x → length bytes / 2 + length (partLeft (x + 1)) ≡ length (partLeft x)
     part-room bytes e =

@@ -1,5 +1,5 @@
--- The references of a path in the code's words: a turn of the loop over its blocks.
--- The idea: what is left of the path, run from here, gives what the whole path gives from the start.
+-- The references of a path, and of a part of one, in the code's words: a turn of the loop over the blocks.
+-- The idea: what is left, run from here, gives what the whole gives from the start.
 use mathlib.Core.Path.{_≡_, sym, ap, _∙_}
 use mathlib.Core.Bool.{true}
 use mathlib.Core.List.{List, [], _∷_}
@@ -11,6 +11,7 @@ use lib.ListN.{length, getD, drop, replicate, length-append, drop-of-length-le}
 use lib.Seq.{drop-cons}
 use Rattle.cache.specs.References.{All, numbers}
 use Rattle.cache.specs.Cache.{Cache}
+use Rattle.cache.proofs.NumberLaws.{length-numbers}
 use Rattle.model.specs.Tasks.{Block, Task, block}
 use Rattle.model.specs.Runs.{RowCount, ownReferences}
 use Rattle.body.specs.Layout.{InBounds}
@@ -20,7 +21,10 @@ use Rattle.body.proofs.Decoded.{decoded-bounds, few-references}
 use Rattle.body.proofs.Walks.{length-starts}
 use Rattle.body.proofs.WalksParts.{BlockParts, kept-decoded, walked-parts}
 use Rattle.runs.specs.Running.{rowCount, ownPath}
-use Rattle.runs.proofs.PathCounts.{own-bound}
+use Rattle.runs.specs.Parts.{partAt, PartIn}
+use Rattle.runs.specs.declared.part.PathPoint.{PathPoint}
+use Rattle.runs.proofs.PathCounts.{own-bound, own-append}
+use Rattle.runs.proofs.PartTurns.{partLeft, part-made, part-end, part-room}
 
 pub all-at : (P : ℕ → Type 0) (l : List ℕ) → All P l → (i : ℕ) → i < length l → P (getD l i 0)
 all-at P [] a i h = absurd (not-suc-le-zero h)
@@ -57,3 +61,20 @@ module _ (k : Cache) (t : Task) (path : List ℕ) (i : ℕ) (cells : List ℕ) (
       → new ≤ old + 16
   block-adds h b bytes er en =
       omega (arith, ap (λ (x : RowCount). x .count) en, own-bound k (numbers bytes) (rowCount cells old), ap length er, few-references t h b)
+
+-- ---- the blocks of a part of a path
+
+module _ (k : Cache) (t : Task) (path : List ℕ) (from to : PathPoint) (x : ℕ) (s : RowCount) where
+  -- the next block of the part
+  pub own-part-turn : (bytes : List ℕ) {r : RowCount} → PartIn t path from to → from .position ≤ x → x ≤ to .position → numbers bytes ≡ partAt t path from to x
+      → r ≡ ownReferences k s (numbers bytes) → ownReferences k r (partLeft t path from to (x + 1)) ≡ ownReferences k s (partLeft t path from to x)
+  own-part-turn bytes h l u er en = part-made t path from to h x l u (ownReferences k) (own-append k) s bytes er en
+
+  -- what is left of the count's room after it
+  pub own-part-room : (bytes : List ℕ) {r : RowCount} {most : ℕ} → PartIn t path from to → from .position ≤ x → x ≤ to .position → numbers bytes ≡ partAt t path from to x
+      → r ≡ ownReferences k s (numbers bytes) → s .count + length (partLeft t path from to x) < most → r .count + length (partLeft t path from to (x + 1)) < most
+  own-part-room bytes h l u er en few =
+      omega (arith, ap (λ (y : RowCount). y .count) en, own-bound k (numbers bytes) s, length-numbers bytes, part-room t path from to h x l u bytes er)
+
+  pub own-part-end : to .position + 1 ≤ x → s ≡ ownReferences k s (partLeft t path from to x)
+  own-part-end h = ap (ownReferences k s) (sym (part-end t path from to x h))

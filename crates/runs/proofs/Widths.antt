@@ -1,4 +1,4 @@
--- The count of a run and its lost hits are the same for rows of every width: the places from n on are never referred to.
+-- The misses of references, the count of a run and its lost hits are the same for rows of every width: the places from n on are never referred to.
 -- The idea: a run is a list of events, and each event leaves the broad row the narrow one with nothings after it.
 use mathlib.Core.Path.{_≡_, refl, sym, ap, ap₂, _∙_}
 use mathlib.Core.Bool.{not, _&&_}
@@ -9,7 +9,7 @@ use native.Mathlib.Omega.{arith}
 use lib.Dec.{eqb}
 use lib.ListN.{length}
 use Rattle.cache.specs.Sum.{bit}
-use Rattle.cache.specs.Cache.{Cache, wide, direct, emptyRow, withReference, withReferences}
+use Rattle.cache.specs.Cache.{Cache, wide, direct, emptyRow, withReference, withReferences, misses}
 use Rattle.cache.proofs.Rows.{length-emptyRow, length-withReference, length-withReferences}
 use Rattle.model.specs.Tasks.{Task}
 use Rattle.model.specs.Runs.{Preemption, points, countAtEnd, lostAtEnd}
@@ -41,6 +41,15 @@ module _ (n : ℕ) (pos : 0 < n) (d : ℕ) where
       ap (λ (r : List ℕ). lost (wide (n + d) n) r (padded n pos d u) es) (padded-references n pos d fs d′ ed)
       ∙ lost-events-width es (withReferences (direct n) d′ fs) u (length-withReferences (direct n) fs d′ ed) eu
 
+  -- references in order
+  broad-misses : (ms : List ℕ) (row : List ℕ) → length row ≡ n → misses (wide (n + d) n) (padded n pos d row) ms ≡ misses (direct n) row ms
+  broad-misses [] row e = refl
+  broad-misses (m ∷ ms) row e =
+      ap₂ (λ (x y : ℕ). x + y)
+      (ap (λ (h : ℕ). bit (not (eqb h m))) (held-inner n pos d row (m % n) e (mod-lt m pos)))
+      (ap (λ (r : List ℕ). misses (wide (n + d) n) r ms) (padded-reference n pos d row m e)
+      ∙ broad-misses ms (withReference (direct n) row m) (length-withReference (direct n) row m e))
+
   broad-count : (ts : List Task) (t : Task) (path : List ℕ) (xs : List Preemption) → countAtEnd (wide (n + d) n) ts t path xs ≡ countAtEnd (direct n) ts t path xs
   broad-count ts t path xs =
       count-events (wide (n + d) n) ts t path xs
@@ -54,6 +63,11 @@ module _ (n : ℕ) (pos : 0 < n) (d : ℕ) where
       ∙ ap (λ (r : List ℕ). lost (wide (n + d) n) r r (runEvents ts xs (points t 0 path))) (padded-empty n pos d)
       ∙ lost-events-width (runEvents ts xs (points t 0 path)) (emptyRow (direct n)) (emptyRow (direct n)) (length-emptyRow (direct n)) (length-emptyRow (direct n))
       ∙ sym (lost-events (direct n) ts t path xs)
+
+pub misses-width : (n w : ℕ) → 0 < n → n ≤ w → (ms : List ℕ) → misses (wide w n) (emptyRow (wide w n)) ms ≡ misses (direct n) (emptyRow (direct n)) ms
+misses-width n w pos h ms =
+    let e : w ≡ n + (w - n) = omega arith in
+    rw e (ap (λ (r : List ℕ). misses (wide (n + (w - n)) n) r ms) (padded-empty n pos (w - n)) ∙ broad-misses n pos (w - n) ms (emptyRow (direct n)) (length-emptyRow (direct n)))
 
 pub count-width : (n w : ℕ) → 0 < n → n ≤ w → (ts : List Task) (t : Task) (path : List ℕ) (xs : List Preemption)
     → countAtEnd (wide w n) ts t path xs ≡ countAtEnd (direct n) ts t path xs

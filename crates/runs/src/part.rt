@@ -1,9 +1,10 @@
-// The references of a part of a path, from point to point, made on both caches of a run. The caches are lent for the whole part.
+// The references of a part of a path, from point to point, made on one cache, or on both caches of a run. The caches are lent for the whole part.
 ghost use mathlib.Core.Path.{_≡_};
-ghost use Prim.Native.Nat.{_≤_, _<_};
+ghost use Prim.Native.Nat.{_+_, _^_, _≤_, _<_};
 ghost use lib.ListN.{length};
 ghost use Rattle.cache.specs.References.{numbers};
 ghost use Rattle.cache.specs.Shape.{shaped, Holds};
+ghost use Rattle.model.specs.Runs.{ownReferences};
 ghost use Rattle.body.specs.Decode.{decode, taskOf};
 ghost use Rattle.runs.specs.Running.{held, both, heldBoth, CountsFit, ownBoth, PathIn};
 ghost use Rattle.runs.specs.Parts.{partOf, partAt, PartIn, lastPoint};
@@ -12,6 +13,7 @@ use crate::both_runs::refer_both;
 use crate::path::count_on;
 use crate::path::references_on;
 use crate::replay_cache::ReplayCache;
+use crate::replay_cache::refer_all;
 use cache::blocks::CacheShape;
 
 // A point of a path: a position, and how many references of the block there are done.
@@ -56,6 +58,45 @@ pub fn part_on<'a>(
     &bytes[first..end]
 }
 
+// The references between two points of a path, in order, on a lent cache.
+pub fn refer_part(
+    body: &[u8],
+    starts: &[usize],
+    path: &[u16],
+    from: PathPoint,
+    to: PathPoint,
+    shape: CacheShape,
+    cache: &mut ReplayCache,
+)
+    requires { ⌜ PathIn (now body) (now starts) (now path) × PartIn (taskOf (decode (now body))) (now path) from to × Holds 32 shape
+        × (now cache .misses + length (partOf (taskOf (decode (now body))) (now path) from to) < 2 ^ 32) ⌝ }
+    ensures { λ _. ⌜ held (now (cache .exit)) ≡ ownReferences (shaped 32 shape) (held (now (cache .entry)))
+        (partOf (taskOf (decode (now (body .entry)))) (now (path .entry)) from to) ⌝ }
+{
+    for x in from.position..to.position + 1 {
+        refer_all(part_on(body, starts, path, x, from, to), shape, cache);
+    }
+}
+
+// The same as `refer_part`, for callers that hold the cache by value: a local is lent.
+pub fn after_part(
+    body: &[u8],
+    starts: &[usize],
+    path: &[u16],
+    from: PathPoint,
+    to: PathPoint,
+    shape: CacheShape,
+    cache: ReplayCache,
+) -> ReplayCache
+    requires { ⌜ PathIn (now body) (now starts) (now path) × PartIn (taskOf (decode (now body))) (now path) from to × Holds 32 shape
+        × (cache .misses + length (partOf (taskOf (decode (now body))) (now path) from to) < 2 ^ 32) ⌝ }
+    ensures { λ r. ⌜ held r ≡ ownReferences (shaped 32 shape) (held cache) (partOf (taskOf (decode (now (body .entry)))) (now (path .entry)) from to) ⌝ }
+{
+    let mut lent = cache;
+    refer_part(body, starts, path, from, to, shape, &mut lent);
+    lent
+}
+
 // The references between two points of a path, in order, as own references on both lent caches of a run; the lost hits are counted on.
 pub fn refer_part_both(
     body: &[u8],
@@ -87,7 +128,7 @@ pub fn refer_part_both(
     so_far
 }
 
-// The same, for callers that hold both caches by value.
+// The same as `refer_part_both`, for callers that hold both caches by value.
 pub fn after_part_both(
     body: &[u8],
     starts: &[usize],

@@ -45,7 +45,7 @@ not-before-passes : (i d j e : ℕ) → NotBefore i d j e → notBefore i d j e 
 not-before-passes i d j e (inl h) = rw (lt-ltb i j h)
 not-before-passes i d j e (inr (q, h)) = rw (le-ltb i j (omega arith), eq-eqb i j q, le-leb d e h)
 
-passes-not-before : (i d j e : ℕ) → notBefore i d j e ≡ true → NotBefore i d j e
+pub passes-not-before : (i d j e : ℕ) → notBefore i d j e ≡ true → NotBefore i d j e
 passes-not-before i d j e h =
     ⊎-elim (λ q. inl (ltb-true i j q)) (λ q. inr (eqb-true i j (both-left (eqb i j) _ q), leb-true d e (both-right (eqb i j) _ q)))
     (or-cases (ltb i j) (eqb i j && leb d e) h)
@@ -95,14 +95,14 @@ parse-numbers t r h =
 -- ---- what parses to a run is its numbers, and the run keeps the rules
 
 -- what `pathTest` says of the path of k blocks at the beginning of rest
-record PathRead (k : ℕ) (rest : List ℕ) : Type 0 where
-  long : length (take k rest) ≡ k
-  bounds : PathInBounds (take k rest)
+pub record PathRead (k : ℕ) (rest : List ℕ) : Type 0 where
+  pub long : length (take k rest) ≡ k
+  pub bounds : PathInBounds (take k rest)
 
 pub path-there : (k : ℕ) (rest : List ℕ) → pathTest k rest ≡ true → k ≤ length rest
 path-there k rest e = leb-true k (length rest) (both-right (leb k longestPath) _ (both-right (leb 1 k) _ e))
 
-path-read : (k : ℕ) (rest : List ℕ) → pathTest k rest ≡ true → PathRead k rest
+pub path-read : (k : ℕ) (rest : List ℕ) → pathTest k rest ≡ true → PathRead k rest
 path-read k rest e =
     let e1 = both-right (leb 1 k) _ e in
     let some = leb-true 1 k (both-left (leb 1 k) _ e) in

@@ -12,7 +12,7 @@ const BLOCKS: usize = 1536;
 const PREEMPTIONS: usize = 16;
 
 // Whether a path of this many blocks can stand at the beginning of the numbers.
-fn path_kept(long: usize, rest: &[u16]) -> bool
+pub fn path_kept(long: usize, rest: &[u16]) -> bool
     ensures { λ r. ⌜ r ≡ pathTest long (now (rest .entry)) ⌝ }
 {
     if long < 1 {
@@ -25,7 +25,7 @@ fn path_kept(long: usize, rest: &[u16]) -> bool
 }
 
 // Whether the point of the position j and e references done doesn't come before that of i and d: the positions decide, or the references.
-fn not_before(i: usize, d: usize, j: usize, e: usize) -> bool
+pub fn not_before(i: usize, d: usize, j: usize, e: usize) -> bool
     ensures { λ r. ⌜ r ≡ notBefore i d j e ⌝ }
 {
     if i < j {

@@ -1,0 +1,3 @@
+pub mod NestedReplay
+pub mod NestedVerdict
+pub mod Passes

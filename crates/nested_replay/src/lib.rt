@@ -1,0 +1,47 @@
+// Nested replay: the misses of a run and of all runs within it, from an empty cache.
+mod checks;
+mod totals;
+
+ghost use mathlib.Core.Path.{_≡_};
+ghost use Rattle.project.specs.Reading.{headCheck};
+ghost use Rattle.nested_replay.specs.NestedReplay.{nestedReplayingOf};
+use cache::blocks::CacheShape;
+use cache::numbers::byte_count;
+use checks::check_sheet;
+use project::answers::Check;
+use project::answers::Reading;
+use project::head::head;
+use reader::read_bodies;
+use totals::total_misses;
+
+// What Nested replay answers: the misses of all runs, or the check that fails first and the task it names.
+pub enum NestedReplaying {
+    Counted { total: u64 },
+    Refused { check: u8, task: u8 },
+}
+
+// The answer for a file whose first eight bytes passed their checks.
+fn replay_bodies(file: &[u8], sheet: &[u16]) -> NestedReplaying
+    requires { ⌜ headCheck (now file) ≡ Check.Passed ⌝ }
+    ensures { λ r. ⌜ r ≡ nestedReplayingOf (now (file .entry)) (now (sheet .entry)) ⌝ }
+{
+    match read_bodies(file) {
+        Reading::Refused { check, task } => NestedReplaying::Refused { check, task },
+        Reading::Accepted { n, t } => match check_sheet(file, sheet, byte_count(t)) {
+            Check::Refused { check, task } => NestedReplaying::Refused { check, task },
+            Check::Passed => NestedReplaying::Counted {
+                total: total_misses(file, sheet, CacheShape { blocks: n }),
+            },
+        },
+    }
+}
+
+// Nested replay: the total of the nested run that the sheet says, from an empty cache, or the check that fails first.
+pub fn nested_replay(file: &[u8], sheet: &[u16]) -> NestedReplaying
+    ensures { λ r. ⌜ r ≡ nestedReplayingOf (now (file .entry)) (now (sheet .entry)) ⌝ }
+{
+    match head(file) {
+        Check::Refused { check, task } => NestedReplaying::Refused { check, task },
+        Check::Passed => replay_bodies(file, sheet),
+    }
+}

@@ -1,0 +1,4 @@
+pub mod NestedSheet
+pub mod FrontToBack
+pub mod Reading
+pub mod NestedRuns
