@@ -4,7 +4,7 @@
 #include <stdio.h>
 #include <stdlib.h>
 
-/* When a check of a file, of a number, penalty and clock, or of two tasks fails. */
+/* When a check of a file, of a number, penalty and clock, of two tasks or of a nested sheet fails. */
 static const char *meaning(uint8_t check)
 {
     switch (check) {
@@ -17,9 +17,14 @@ static const char *meaning(uint8_t check)
     case CRPD_CHECK_LAYOUT: return "a body breaks its layout";
     case CRPD_CHECK_COMPLETE_PATHS: return "a block is on no complete path";
     case CRPD_CHECK_STATES: return "a block has 33 or more reaching or live states";
+    case CRPD_CHECK_SHEET:
+        return "the sheet is too short or too long, or a length, a count, a task or a point is against the rules";
+    case CRPD_CHECK_SHEET_PATHS: return "a path isn't complete, or a number of references done is wrong";
+    case CRPD_CHECK_MASKED: return "a preemption comes in a masked block";
     case CRPD_CHECK_MICROSECONDS:
         return "the number is over 16, the penalty outside 1 to 1,000 or the clock outside 1 to 1,000,000";
     case CRPD_CHECK_TWO_TASKS: return "the two tasks are equal, or one is not in the file";
+    case CRPD_CHECK_NESTED: return "a count is above 0 at depth 7, or a task occurs inside itself";
     default: return "a list is of another length";
     }
 }

@@ -7,7 +7,7 @@
  * call writes to one of them. The pointer of a list of 0 elements is never followed and may be null, as that of an
  * empty std::vector may be. Any other must not be null.
  *
- * Answers. Each call answers 0 when it is done, or the number of the check that fails first, 1 to 19 but never 10
+ * Answers. Each call answers 0 when it is done, or the number of the check that fails first, 1 to 20 but never 10
  * (below). What else it has to say stands in its last list (answer, named or found). A last list of another length than
  * the one named here is refused with 1 before anything else, and then no list is written, the last one too: a caller
  * that prints a task after that prints what the list held before. After every other answer each place of the last list
@@ -16,7 +16,8 @@
  * Threads. The calls keep nothing between them, take nothing from the heap and call nothing outside the archive but
  * memcpy and memset, so they may run in several threads at once, on lists that no other thread writes meanwhile.
  * Measured on small and large files alike, crpd_costliest_run takes about 51 KiB of stack, crpd_table about 22 KiB and
- * each other call about 9 KiB at most; no proof bounds it.
+ * each other call about 9 KiB at most, but for crpd_nested: about 1 KiB more for each run that comes before or around
+ * another, 122 KiB for the deepest run at the end of the longest lists. No proof bounds it.
  */
 #ifndef CRPD_H
 #define CRPD_H
@@ -29,8 +30,8 @@ extern "C" {
 #endif
 
 /*
- * What the calls answer. Checks run in rising number, but for crpd_states and crpd_costliest_run; each passes for all
- * tasks before the next. A check names a task where the table says so, and else CRPD_NO_TASK.
+ * What the calls answer. Checks run in rising number, but for crpd_states, crpd_costliest_run and crpd_nested; each
+ * passes for all tasks before the next. A check names a task where the table says so, and else CRPD_NO_TASK.
  *
  *  No  fails when                                                            names
  *   1  a work area, a table or the last list is of another length
@@ -59,6 +60,8 @@ extern "C" {
  *      or a clock outside 1 to 1,000,000
  *  18  the two tasks are equal, or one is not below t
  *  19  the sheet to write is shorter than 2,311 numbers
+ *  20  in a nested sheet a count is above 0 at depth 7, or a task occurs
+ *      inside itself
  */
 enum crpd_status {
     CRPD_DONE = 0,
@@ -79,7 +82,8 @@ enum crpd_status {
     CRPD_CHECK_MASKED = 16,
     CRPD_CHECK_MICROSECONDS = 17,
     CRPD_CHECK_TWO_TASKS = 18,
-    CRPD_CHECK_SHEET_LENGTH = 19
+    CRPD_CHECK_SHEET_LENGTH = 19,
+    CRPD_CHECK_NESTED = 20
 };
 
 #define CRPD_NO_TASK 255  /* where a check names no task, and where a call is done */
@@ -112,6 +116,9 @@ enum crpd_status {
 #define CRPD_SHEET_LENGTH 26179           /* numbers of the longest sheet: 1,539 for the task, 1,540 for each preemption */
 #define CRPD_COSTLIEST_SHEET_LENGTH 2311  /* the fewest numbers of a sheet that crpd_costliest_run takes */
 
+/* The nested sheet: its paths and the list of each of its runs are bounded as those of the run sheet. */
+#define CRPD_DEPTH 7  /* the deepest run; the outer run has depth 0 */
+
 /* Microseconds. */
 #define CRPD_NUMBER 16      /* the largest pair number */
 #define CRPD_PENALTY 1000   /* the largest miss penalty, in cycles; the smallest is 1 */
@@ -125,6 +132,7 @@ enum crpd_status {
 #define CRPD_WRITE_LENGTH 2          /* answer of crpd_write */
 #define CRPD_MICROSECONDS_LENGTH 3   /* answer of crpd_microseconds */
 #define CRPD_COSTLIEST_RUN_LENGTH 2  /* answer of crpd_costliest_run */
+#define CRPD_NESTED_LENGTH 2         /* answer of crpd_nested */
 
 /*
  * Reader: n and t of a file. Checks 2 to 9.
@@ -276,6 +284,34 @@ uint8_t crpd_costliest_run(
     const uint8_t *file, size_t file_length, size_t i, size_t j, uint16_t *first, size_t first_length,
     uint16_t *second, size_t second_length, uint16_t *sheet, size_t sheet_length,
     size_t *answer, size_t answer_length);
+
+/*
+ * Nested replay: the misses of all tasks in a run whose preempting tasks may be preempted themselves, from an empty cache.
+ * Checks 2 to 9; then 12 and 20, read from the sheet's front: the first number at fault decides, 12 if it is against both,
+ * and a sheet that ends too early without such a number is 12; then 13 over all runs, and then 16 over all runs.
+ * file: its bytes, any number of them.
+ * sheet: any number of places, of which checks 12 and 20 ask, in this order and with nothing after them, the outer run:
+ *   its task, below t
+ *   its path's length, 1 to CRPD_PATH_LENGTH
+ *   the path's blocks
+ *   the number of runs that preempt it, 0 to CRPD_PREEMPTIONS
+ *   for each of these:
+ *     the position: where it comes in the path of the run that it preempts, from 0; not below the position before. Check
+ *       16 asks that the block there, in the body of the preempted task, is not masked.
+ *     the references done: how many of that block's references come before it. Check 13 asks that they are 1 to all,
+ *       or 0 where the block has none; check 12 that they are not below those of the run before in this list where that
+ *       has the same position.
+ *     the preempting run, in the same way as the outer run: task, path's length, blocks, number of runs that preempt it,
+ *       and for each of these the same again
+ * Check 20 asks that no task is that of a run around it, and that at depth CRPD_DEPTH the number of runs is 0.
+ * answer: CRPD_NESTED_LENGTH places:
+ *   0: the task that the check names, or CRPD_NO_TASK
+ *   1: the total of the misses of all runs; 0 after a refusal. It is at most the sum of the misses of each run alone from
+ *      an empty cache and, for every preempting run, of the pair numbers by its task of the task of each run around it.
+ */
+uint8_t crpd_nested(
+    const uint8_t *file, size_t file_length, const uint16_t *sheet, size_t sheet_length,
+    uint64_t *answer, size_t answer_length);
 
 #ifdef __cplusplus
 }

@@ -15,7 +15,7 @@ pub const NOTHING: u16 = 65535;
 /// In the answers of the calls for C: no task.
 const NO_TASK: u8 = 255;
 
-/// The check that fails first, 1 to 19 but never 10, and the task that it names.
+/// The check that fails first, 1 to 20 but never 10, and the task that it names.
 #[derive(Clone, Copy, Debug, PartialEq, Eq)]
 pub struct Refusal {
     pub check: u8,
@@ -162,6 +162,18 @@ pub fn costliest_run(
     result(status, task as u8, length)
 }
 
+/// Nested replay: the misses of all tasks. Checks 2 to 9, then 12 and 20, of which the first number at fault decides, then
+/// 13 and 16. A preemption of the sheet is a position in the path that it preempts, the references done there, and the
+/// preempting run: a task, its path and its own preemptions.
+#[inline]
+pub fn nested(file: &[u8], sheet: &[u16]) -> Result<u64, Refusal> {
+    let mut answer = [0; 2];
+    let status = calls::nested(file, sheet, &mut answer);
+    let [task, total] = answer;
+    // a task that is named is a byte
+    result(status, task as u8, total)
+}
+
 /// The calls as include/crpd.h has them: each answers its status, and puts the rest into its last list, which has a
 /// fixed length. A slice passes as a pointer and a number of elements.
 pub mod calls {
@@ -194,6 +206,10 @@ pub mod calls {
             file: *const u8, file_length: usize, i: usize, j: usize, first: *mut u16, first_length: usize,
             second: *mut u16, second_length: usize, sheet: *mut u16, sheet_length: usize,
             answer: *mut usize, answer_length: usize,
+        ) -> u8;
+        fn crpd_nested(
+            file: *const u8, file_length: usize, sheet: *const u16, sheet_length: usize,
+            answer: *mut u64, answer_length: usize,
         ) -> u8;
     }
 
@@ -268,6 +284,15 @@ pub mod calls {
                 file.as_ptr(), file.len(), i, j, first.as_mut_ptr(), first.len(),
                 second.as_mut_ptr(), second.len(), sheet.as_mut_ptr(), sheet.len(),
                 answer.as_mut_ptr(), answer.len(),
+            )
+        }
+    }
+
+    #[inline]
+    pub fn nested(file: &[u8], sheet: &[u16], answer: &mut [u64]) -> u8 {
+        unsafe {
+            crpd_nested(
+                file.as_ptr(), file.len(), sheet.as_ptr(), sheet.len(), answer.as_mut_ptr(), answer.len(),
             )
         }
     }

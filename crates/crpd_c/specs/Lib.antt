@@ -7,3 +7,4 @@ pub mod Write
 pub mod Replay
 pub mod Microseconds
 pub mod CostliestRun
+pub mod Nested

@@ -1,6 +1,7 @@
 // The calls for C: numbers and slices only. A slice is a pointer and a number of elements.
 pub mod body_place;
 pub mod fill;
+pub mod nested;
 mod put;
 pub mod read;
 pub mod row_place;

@@ -42,3 +42,12 @@ pub fn put_four(list: &mut [u32], first: u32, second: u32, third: u32, fourth: u
     list[2] = third;
     list[3] = fourth;
 }
+
+// Two long words.
+pub fn put_longs(list: &mut [u64], first: u64, second: u64)
+    requires { ⌜ length (now list) ≡ 2 ⌝ }
+    ensures { λ _. ⌜ now (list .exit) ≡ first ∷ second ∷ [] ⌝ }
+{
+    list[0] = first;
+    list[1] = second;
+}
