@@ -1,7 +1,7 @@
 -- Point 7 whole, over accepted files: `nested-whole`; the worked example, `three-answers`, and the false neighbours of the bound, over files.
 -- The idea: an accepted file's tasks keep the rules of the bound; a nested sheet is the numbers of one nested run only.
 use mathlib.Core.Path.{_≡_, refl, sym, ap, _∙_}
-use mathlib.Core.List.{List, [], _∷_, _++_, append-assoc, append-nil, map}
+use mathlib.Core.List.{List, [], _∷_, _++_, append-nil, map}
 use Prim.Native.Nat.{ℕ, _+_, _≤_}
 use native.Mathlib.Omega.{arith}
 use lib.ListN.{length, getD, drop}

@@ -28,7 +28,7 @@ use Rattle.model.proofs.Lost.{upper-from-empty}
 use Rattle.model.proofs.Taken.{InOrder, taken-all}
 use Rattle.model.proofs.Incoming.{Costs, own-run, parts-run, total-le}
 use Rattle.model.proofs.Bounds.{real-at}
-use Rattle.model.proofs.Woven.{positionOf, doneOf, referencesOf, events, takenOf, sumOver, Misses, misses-woven, at-points, RealPoints, RealComings, real-woven, measure, costOf, union}
+use Rattle.model.proofs.Woven.{positionOf, doneOf, referencesOf, events, takenOf, sumOver, Misses, misses-woven, at-points, RealPoints, RealComings, real-woven, costOf, union}
 
 -- ---- sums over all runs of a list, at every depth
 

@@ -18,7 +18,7 @@ use Rattle.project.specs.Reading.{fileChecks, fileCheck, readingOf}
 use Rattle.project.specs.Bodies.{accepted}
 use Rattle.project.specs.Tasks.{tasksOf, fileShape}
 use Rattle.project.proofs.Checklists.{verdict-append}
-use Rattle.project.proofs.Accepted.{passing, unless-passed, accepted-passed}
+use Rattle.project.proofs.Accepted.{unless-passed, accepted-passed}
 use Rattle.reader.proofs.TaskBodies.{reading, refused-check}
 use Rattle.nested_sheet.specs.Reading.{sheetFault}
 use Rattle.nested_sheet.specs.NestedRuns.{ownList, nestedRunOf, nestedRight, nestedUnmasked}
@@ -28,13 +28,11 @@ use Rattle.nested_sheet.proofs.SheetNests.{nested-right}
 use Rattle.nested_replay.specs.declared.checks.Checked.the-variants.{Wrong, Right}
 use Rattle.nested_replay.specs.declared.NestedReplaying.the-variants.{Counted, Refused}
 use Rattle.nested_replay.specs.NestedReplay.{nested12, nested20, nested13, nested16, nestedSheetChecks, nestedSheetCheck, nestedCheck, totalIn, pickNested, nestedReplayingOf}
-use Rattle.nested_replay.specs.Passes.{checkedRun, RunReads, RunReplays}
+use Rattle.nested_replay.specs.Passes.{checkedRun, runsCheck, RunReads, RunReplays}
+use Rattle.nested_replay.proofs.TaskTables.{few-tasks}
 use Rattle.nested_replay.proofs.CheckLaws.{told-right, told-wrong}
 
 -- ---- the checks on the sheet: f is the check that its first number at fault is against, or 0
-
-few-tasks : (s : List ℕ) → accepted (readingOf s) ≡ true → taskCount s ≤ 8
-few-tasks s h = passing s (accepted-passed s (cacheBlocks s) (taskCount s) (reading s h) .0) .t-high
 
 module _ (s sheet : List ℕ) {t : ℕ} (file : accepted (readingOf s) ≡ true) (et : t ≡ taskCount s) where
   pub tasks-few : t ≤ 8
@@ -62,18 +60,30 @@ module _ (s sheet : List ℕ) {t : ℕ} (file : accepted (readingOf s) ≡ true)
           let kept = kept-numbers (taskCount s) sheet none in
           record { file = file; run = kept .rules .run; list = kept .rules .list; ends = omega (arith, kept .ends) }
 
-      pub sheet-13 : Wrong ≡ checkedRun s sheet 7 0 → Failed 13 255 ≡ nestedSheetCheck s sheet
-      sheet-13 e = sym (rw (none, told-wrong (nestedRight (tasksOf s) (nestedRunOf sheet)) (nestedUnmasked (tasksOf s) (nestedRunOf sheet)) (ownList 7 sheet 0 .next) e))
+      pub sheet-runs : nestedSheetCheck s sheet ≡ runsCheck s sheet
+      sheet-runs = go (nestedRight (tasksOf s) (nestedRunOf sheet)) (nestedUnmasked (tasksOf s) (nestedRunOf sheet)) refl refl
+        where
+          go : (r m : Bool) → nestedRight (tasksOf s) (nestedRunOf sheet) ≡ r → nestedUnmasked (tasksOf s) (nestedRunOf sheet) ≡ m
+              → nestedSheetCheck s sheet ≡ runsCheck s sheet
+          go true true er em = rw (none, er, em)
+          go true false er em = rw (none, er, em)
+          go false m er em = rw (none, er)
 
-      module _ {next : ℕ} {m : Bool} (e : Right next m ≡ checkedRun s sheet 7 0) where
-        told : (nestedRight (tasksOf s) (nestedRunOf sheet) ≡ true) × (m ≡ nestedUnmasked (tasksOf s) (nestedRunOf sheet)) × (next ≡ ownList 7 sheet 0 .next)
-        told = told-right (nestedRight (tasksOf s) (nestedRunOf sheet)) _ _ e
+-- ---- checks 13 and 16 by what is told of the outer run
 
-        pub sheet-16 : m ≡ false → Failed 16 255 ≡ nestedSheetCheck s sheet
-        sheet-16 q = sym (rw (none, told .0, ← (told .1), q))
+module _ (s sheet : List ℕ) where
+  pub runs-13 : Wrong ≡ checkedRun s sheet 7 0 → Failed 13 255 ≡ runsCheck s sheet
+  runs-13 e = sym (rw (told-wrong (nestedRight (tasksOf s) (nestedRunOf sheet)) (nestedUnmasked (tasksOf s) (nestedRunOf sheet)) (ownList 7 sheet 0 .next) e))
 
-        pub sheet-passed : m ≡ true → Passed ≡ nestedSheetCheck s sheet
-        sheet-passed q = sym (rw (none, told .0, ← (told .1), q))
+  module _ {next : ℕ} {m : Bool} (e : Right next m ≡ checkedRun s sheet 7 0) where
+    told : (nestedRight (tasksOf s) (nestedRunOf sheet) ≡ true) × (m ≡ nestedUnmasked (tasksOf s) (nestedRunOf sheet)) × (next ≡ ownList 7 sheet 0 .next)
+    told = told-right (nestedRight (tasksOf s) (nestedRunOf sheet)) _ _ e
+
+    pub runs-16 : m ≡ false → Failed 16 255 ≡ runsCheck s sheet
+    runs-16 q = sym (rw (told .0, ← (told .1), q))
+
+    pub runs-passed : m ≡ true → Passed ≡ runsCheck s sheet
+    runs-passed q = sym (rw (told .0, ← (told .1), q))
 
 -- what passing the checks on the sheet says
 pub record SheetPassed (s sheet : List ℕ) : Type 0 where
@@ -117,15 +127,11 @@ call-refused s sheet {c} {a} e = sym (answer-by s sheet (Failed c a) (nested-par
 
 -- ---- the answer for an accepted file
 
-module _ (s sheet : List ℕ) {n u : ℕ} (e : readingOf s ≡ Accepted n u) where
+module _ (s sheet : List ℕ) (file : accepted (readingOf s) ≡ true) where
   checks : nestedCheck s sheet ≡ nestedSheetCheck s sheet
-  checks = nested-parts s sheet ∙ ap (λ (c : Check). andThen c (nestedSheetCheck s sheet)) (accepted-passed s n u e .0)
-
-  pub tasks-of : {t : ℕ} → t ≡ u → t ≡ taskCount s
-  tasks-of q = q ∙ accepted-passed s n u e .2
-
-  pub shape-of : _≡_ {A = CacheShape} (record { blocks = n }) (fileShape s)
-  shape-of = rw (accepted-passed s n u e .1)
+  checks =
+      nested-parts s sheet
+      ∙ ap (λ (c : Check). andThen c (nestedSheetCheck s sheet)) (accepted-passed s (cacheBlocks s) (taskCount s) (reading s file) .0)
 
   pub call-sheet : {c a : ℕ} → nestedSheetCheck s sheet ≡ Failed c a → Refused c a ≡ nestedReplayingOf s sheet
   call-sheet {c} {a} q = sym (answer-by s sheet (Failed c a) (checks ∙ q))
@@ -135,7 +141,16 @@ module _ (s sheet : List ℕ) {n u : ℕ} (e : readingOf s ≡ Accepted n u) whe
     ready =
         let p = passed-sheet s sheet q in
         let right = nested-right (tasksOf s) (nestedRunOf sheet) .0 (p .right) in
-        record { reads = sheet-reads s sheet (ap accepted e) refl refl (p .none); complete = right .0; right = right .1 }
+        record { reads = sheet-reads s sheet file refl refl (p .none); complete = right .0; right = right .1 }
 
     pub call-counted : {x : ℕ} → x ≡ totalIn s (nestedRunOf sheet) → Counted x ≡ nestedReplayingOf s sheet
     call-counted ex = ap Counted ex ∙ sym (answer-by s sheet Passed (checks ∙ q))
+
+-- ---- what the reading of a file gives
+
+module _ (s : List ℕ) {n u : ℕ} (e : readingOf s ≡ Accepted n u) where
+  pub tasks-of : {t : ℕ} → t ≡ u → t ≡ taskCount s
+  tasks-of q = q ∙ accepted-passed s n u e .2
+
+  pub shape-of : _≡_ {A = CacheShape} (record { blocks = n }) (fileShape s)
+  shape-of = rw (accepted-passed s n u e .1)

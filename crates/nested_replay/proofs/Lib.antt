@@ -1,5 +1,7 @@
 pub mod SheetLists
 pub mod RunParts
+pub mod TaskTables
+pub mod MapLaws
 pub mod CheckLaws
 pub mod Rests
 pub mod FewReferences

@@ -33,7 +33,7 @@ use Rattle.sheet.proofs.CompletePaths.{complete-exact}
 use Rattle.runs.specs.Parts.{referencesAt}
 use Rattle.runs.proofs.Segments.{done-le}
 use Rattle.replay.proofs.Replays.{below}
-use Rattle.nested_sheet.specs.NestedSheet.{NestedSheetRun, howMany, withHead, listNumbers, Nested13, Nested16, ListFits, NestedFits, nestedSheetRun, nestedSheet, deepest}
+use Rattle.nested_sheet.specs.NestedSheet.{NestedSheetRun, howMany, withHead, listNumbers, Nested13, Nested16, ListFits, NestedFits, nestedSheet, deepest}
 use Rattle.nested_sheet.specs.FrontToBack.{Nested12, Nested20}
 use Rattle.nested_sheet.specs.Reading.{sheetFault}
 use Rattle.nested_sheet.specs.NestedRuns.{nestedRunOf, nestedRight, nestedUnmasked}

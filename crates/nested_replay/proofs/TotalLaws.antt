@@ -1,10 +1,10 @@
 -- The pass that makes all references, in the code's words: a part of a path, a run by its list, a list that ends, and a list by its first run.
 -- The idea: references of two lists are made one list after the other, and the count grows by no more than there are references.
-use mathlib.Core.Path.{_≡_, refl, sym, ap, ap₂, subst, _∙_}
+use mathlib.Core.Path.{_≡_, sym, ap, ap₂, subst, _∙_}
 use mathlib.Core.List.{List, _++_}
 use Prim.Native.Nat.{ℕ, _+_, _*_, _-_, _^_, _≤_, _<_}
 use native.Mathlib.Omega.{arith}
-use lib.ListN.{length, getD, take, drop, length-append}
+use lib.ListN.{length, getD, length-append}
 use Rattle.cache.specs.References.{All}
 use Rattle.cache.specs.Cache.{Cache, wide, direct, emptyRow}
 use Rattle.cache.specs.Shape.{shaped}
@@ -14,7 +14,6 @@ use Rattle.model.specs.Runs.{RowCount, ownReferences}
 use Rattle.model.specs.Nested.{noRun}
 use Rattle.model.proofs.RunEvents.{own-row}
 use Rattle.body.specs.Decode.{decode, taskOf}
-use Rattle.body.specs.Walk.{startsOf}
 use Rattle.project.specs.File.{File, cacheBlocks, taskCount, bodyOf}
 use Rattle.project.specs.Tasks.{tasksOf, fileShape}
 use Rattle.reader.proofs.TaskBodies.{TaskBody, task-body}
@@ -31,12 +30,13 @@ use Rattle.runs.proofs.Widths.{misses-width}
 use Rattle.replay.proofs.OwnPath.{complete-blocks}
 use Rattle.replay.proofs.CountLaws.{firstPoint}
 use Rattle.nested_sheet.specs.NestedSheet.{RunInRules}
-use Rattle.nested_sheet.specs.NestedRuns.{taskAt, pathAt, listStart, ListAt, listAt, withRun, listOf, ownList, nestedRunOf}
+use Rattle.nested_sheet.specs.NestedRuns.{taskAt, pathAt, ListAt, listAt, withRun, listOf, ownList, nestedRunOf}
 use Rattle.nested_replay.specs.NestedReplay.{totalIn}
-use Rattle.nested_replay.specs.Passes.{RunReads, RunReplays, ListReplays, restReferences, referencesFrom}
+use Rattle.nested_replay.specs.Passes.{RunReads, RunReplays, ListReplays, restReferences, referencesFrom, HasStarts}
 use Rattle.nested_replay.proofs.Rests.{rests-all}
 use Rattle.nested_replay.proofs.SheetLists.{list-next, list-grows}
-use Rattle.nested_replay.proofs.RunParts.{pathPart, part-path, its-list, run-stands, run-kept, run-task}
+use Rattle.nested_replay.proofs.RunParts.{pathPart, part-path, its-list, run-stands, run-there, run-kept, run-task}
+use Rattle.nested_replay.proofs.TaskTables.{taskPart, starts-part}
 use Rattle.nested_replay.proofs.FewReferences.{references-few}
 
 -- ---- a part of a path
@@ -74,8 +74,12 @@ module _ (s : File) (sheet : Sheet) (deep at : ℕ) (x : RunReplays s sheet deep
     same-list : listOf deep sheet n (at + 2 + m + 1) ≡ ownList deep sheet at
     same-list = its-list sheet deep at em en
 
-    pub run-in : {starts : List ℕ} → starts ≡ startsOf (decode body) → PathIn body starts (pathPart sheet at m)
-    run-in es = record { runs = record { kept = run-kept s sheet deep at (x .reads) ey eb; below = below same-task same-path }; begin = es }
+    -- `starts` has where the blocks of all tasks begin, and the part of the run's task is taken from it
+    pub run-in : (starts : List ℕ) → HasStarts s starts → PathIn body (taskPart y starts) (pathPart sheet at m)
+    run-in starts h = record {
+      runs = record { kept = run-kept s sheet deep at (x .reads) ey eb; below = below same-task same-path };
+      begin = starts-part s (x .reads .file) (run-there s sheet deep at (x .reads) ey) eb h;
+    }
       where
         below : {t : Task} {path : List ℕ} → t ≡ task (tasksOf s) (taskAt sheet at) → path ≡ pathAt sheet at → All (λ (b : ℕ). b < length t) path
         below et ep = rw (et, ep) (complete-blocks (task (tasksOf s) (taskAt sheet at)) (pathAt sheet at) (complete-exact (task (tasksOf s) (taskAt sheet at)) (pathAt sheet at) .1 (x .complete)))

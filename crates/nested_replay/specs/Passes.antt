@@ -3,11 +3,17 @@ use mathlib.Core.Path.{_≡_}
 use mathlib.Core.Bool.{Bool, true, _&&_, cond}
 use mathlib.Core.List.{List, _++_}
 use Prim.Native.Nat.{ℕ, zero, suc, _+_, _*_, _≤_, _<_}
-use lib.ListN.{length}
+use lib.ListN.{length, getD, take, drop}
 use Rattle.model.specs.Tasks.{Task, Path, Complete, task}
 use Rattle.model.specs.Runs.{RowCount}
 use Rattle.model.specs.Nested.{RunList, noRun, aRun, RiseFrom, allReferences}
-use Rattle.project.specs.File.{File, taskCount}
+use Rattle.body.specs.Decode.{decode}
+use Rattle.body.specs.Walk.{startsOf}
+use Rattle.body.specs.Jumps.{jumpSets, unmaskedSet}
+use Rattle.project.specs.declared.answers.Check.{Check}
+use Rattle.project.specs.declared.answers.Check.the-variants.{Passed}
+use Rattle.project.specs.declared.answers.Check.the-variants.{Refused as Failed}
+use Rattle.project.specs.File.{File, taskCount, bodyOf}
 use Rattle.project.specs.Reading.{readingOf}
 use Rattle.project.specs.Bodies.{accepted}
 use Rattle.project.specs.Tasks.{tasksOf}
@@ -16,7 +22,7 @@ use Rattle.runs.specs.Running.{rowCount}
 use Rattle.runs.specs.Parts.{referencesAt, partOf, lastPoint}
 use Rattle.runs.specs.declared.part.PathPoint.{PathPoint}
 use Rattle.nested_sheet.specs.NestedSheet.{RunInRules, ListInRules, ListRight}
-use Rattle.nested_sheet.specs.NestedRuns.{taskAt, pathAt, ListAt, ownList, runRight, listRight, listUnmasked}
+use Rattle.nested_sheet.specs.NestedRuns.{taskAt, pathAt, ListAt, ownList, runRight, listRight, listUnmasked, nestedRunOf, nestedRight, nestedUnmasked}
 use Rattle.nested_replay.specs.declared.checks.Checked.{Checked}
 use Rattle.nested_replay.specs.declared.checks.Checked.the-variants.{Wrong, Right}
 use Rattle.nested_replay.specs.declared.totals.TotalCache.{TotalCache}
@@ -41,6 +47,11 @@ checkedRun s sheet deep at =
 -- of a list xs, in a run of the task t along a path
 abbrev pub checkedList : File → Task → Path → ListAt → Checked
 checkedList s t path xs = checkedOf (listRight (tasksOf s) t path (xs .runs)) (listUnmasked (tasksOf s) t path (xs .runs)) (xs .next)
+
+-- checks 13 and 16 of the whole sheet, 13 first
+abbrev pub runsCheck : File → Sheet → Check
+runsCheck s sheet =
+    cond (nestedRight (tasksOf s) (nestedRunOf sheet)) (cond (nestedUnmasked (tasksOf s) (nestedRunOf sheet)) Passed (Failed 16 255)) (Failed 13 255)
 
 -- an accepted file, and a run within a sheet, of which the rules of check 12 hold
 pub record RunReads (s : File) (sheet : Sheet) (deep at : ℕ) : Type 0 where
@@ -87,3 +98,20 @@ pub record ListReplays (s : File) (sheet : Sheet) (t : Task) (path : Path) (from
 abbrev pub mostReferences : ℕ → ℕ
 mostReferences zero = 24576
 mostReferences (suc deep) = 24576 + 16 * mostReferences deep
+
+-- ---- what is found once for each task of a file
+
+-- where the blocks of each task begin, 24 places a task; the places of absent tasks are left open
+pub record HasStarts (s : File) (list : List ℕ) : Type 0 where
+  pub long : length list ≡ 192
+  pub starts : (j : ℕ) → j < taskCount s → take 24 (drop (24 * j) list) ≡ startsOf (decode (bodyOf s j))
+
+-- the sets of the successors of each task's blocks, likewise
+pub record HasJumps (s : File) (list : List ℕ) : Type 0 where
+  pub long : length list ≡ 192
+  pub jumps : (j : ℕ) → j < taskCount s → take 24 (drop (24 * j) list) ≡ jumpSets (task (tasksOf s) j)
+
+-- the set of the unmasked blocks of each task
+pub record HasUnmasked (s : File) (list : List ℕ) : Type 0 where
+  pub long : length list ≡ 8
+  pub unmasked : (j : ℕ) → j < taskCount s → getD list j 0 ≡ unmaskedSet (task (tasksOf s) j)

@@ -1,5 +1,5 @@
-// The checks on a nested sheet: 12 and 20, and then 13 and 16 over all runs in one pass. A run is checked and then its list, and the list checks
-// runs.
+// Checks 13 and 16 on a nested sheet, over all runs in one pass. A run is checked and then its list, and the list checks runs. What is found once for
+// each task of the file is lent: where its blocks begin, the sets of their successors, and the set of its unmasked blocks.
 ghost use mathlib.Core.Path.{_≡_};
 ghost use mathlib.Core.Bool.{true};
 ghost use Prim.Native.Nat.{_≤_, _<_};
@@ -13,17 +13,14 @@ ghost use Rattle.project.specs.Bodies.{accepted};
 ghost use Rattle.runs.specs.Running.{PathIn};
 ghost use Rattle.nested_sheet.specs.NestedRuns.{listOf};
 ghost use Rattle.nested_sheet.specs.NestedSheet.{ListInRules};
-ghost use Rattle.nested_replay.specs.NestedReplay.{nestedSheetCheck};
-ghost use Rattle.nested_replay.specs.Passes.{checkedRun, checkedList, withFirst, RunReads};
-use body::masks::unmasked_blocks;
-use body::walk;
+ghost use Rattle.nested_replay.specs.Passes.{checkedRun, checkedList, withFirst, runsCheck, RunReads, HasStarts, HasJumps, HasUnmasked};
+use body::block_count;
 use cache::numbers::count;
-use nested_sheet::rules::sheet_fault;
 use project::answers::Check;
 use project::answers::refused;
 use reader::task_body;
 use replay::checks::right_done;
-use sheet::complete::complete;
+use sheet::complete::steps_to_end;
 
 // What the pass tells of a run or a list: some path isn't complete or some number of references done is wrong; or it is right, and then the place
 // after it in the sheet and whether all its points lie in unmasked blocks.
@@ -58,24 +55,36 @@ fn joined(first: bool, other: Checked) -> Checked
 }
 
 // The run that begins at `at`; its runs lie at most `deep` one within the other.
-fn check_run(file: &[u8], sheet: &[u16], at: usize, deep: usize) -> Checked
-    requires { ⌜ RunReads (now file) (now sheet) deep at ⌝ }
+fn check_run(
+    file: &[u8],
+    sheet: &[u16],
+    starts: &[usize],
+    jumps: &[u32],
+    sets: &[u32],
+    at: usize,
+    deep: usize,
+) -> Checked
+    requires { ⌜ RunReads (now file) (now sheet) deep at × HasStarts (now file) (now starts) × HasJumps (now file) (now jumps)
+        × HasUnmasked (now file) (now sets) ⌝ }
     ensures { λ r. ⌜ r ≡ checkedRun (now (file .entry)) (now (sheet .entry)) deep at ⌝ }
 {
-    let body = task_body(file, count(sheet[at]));
+    let p = count(sheet[at]);
+    let body = task_body(file, p);
     let from = at + 2;
     let to = from + count(sheet[at + 1]);
     let path = &sheet[from..to];
-    if complete(body, path) {
-        let starts = walk(body).starts;
-        let set = unmasked_blocks(body);
+    let first = 24 * p;
+    if steps_to_end(&jumps[first..first + 24], block_count(body), path) {
         return check_list(
             file,
             sheet,
+            starts,
+            jumps,
+            sets,
             body,
-            &starts,
+            &starts[first..first + 24],
             path,
-            set,
+            sets[p],
             to + 1,
             count(sheet[to]),
             deep,
@@ -84,21 +93,27 @@ fn check_run(file: &[u8], sheet: &[u16], at: usize, deep: usize) -> Checked
     Checked::Wrong
 }
 
-// The list of `left` runs that begins at `at`, in a run of the body's task along the path; the set has the unmasked blocks of that task.
+// The list of `left` runs that begins at `at`, in a run of the body's task along the path; the task's blocks begin at `begins`, and the set has
+// its unmasked blocks.
 fn check_list(
     file: &[u8],
     sheet: &[u16],
-    body: &[u8],
     starts: &[usize],
+    jumps: &[u32],
+    sets: &[u32],
+    body: &[u8],
+    begins: &[usize],
     path: &[u16],
     set: u32,
     at: usize,
     left: usize,
     deep: usize,
 ) -> Checked
-    requires { ⌜ (accepted (readingOf (now file)) ≡ true) × PathIn (now body) (now starts) (now path) × (set ≡ unmaskedSet (taskOf (decode (now body))))
+    requires { ⌜ (accepted (readingOf (now file)) ≡ true) × PathIn (now body) (now begins) (now path)
+        × (set ≡ unmaskedSet (taskOf (decode (now body))))
         × ListInRules (taskCount (now file)) (length (now path)) (listOf deep (now sheet) left at .runs)
-        × (listOf deep (now sheet) left at .next ≤ length (now sheet)) ⌝ }
+        × (listOf deep (now sheet) left at .next ≤ length (now sheet))
+        × HasStarts (now file) (now starts) × HasJumps (now file) (now jumps) × HasUnmasked (now file) (now sets) ⌝ }
     ensures { λ r. ⌜ r ≡ checkedList (now (file .entry)) (taskOf (decode (now (body .entry)))) (now (path .entry))
         (listOf deep (now (sheet .entry)) left at) ⌝ }
 {
@@ -115,11 +130,24 @@ fn check_list(
         };
     }
     let position = count(sheet[at]);
-    if right_done(body, starts, path, position, count(sheet[at + 1])) {
-        return match check_run(file, sheet, at + 2, deep - 1) {
+    if right_done(body, begins, path, position, count(sheet[at + 1])) {
+        return match check_run(file, sheet, starts, jumps, sets, at + 2, deep - 1) {
             Checked::Wrong => Checked::Wrong,
             Checked::Right { next, unmasked } => {
-                let rest = check_list(file, sheet, body, starts, path, set, next, left - 1, deep);
+                let rest = check_list(
+                    file,
+                    sheet,
+                    starts,
+                    jumps,
+                    sets,
+                    body,
+                    begins,
+                    path,
+                    set,
+                    next,
+                    left - 1,
+                    deep,
+                );
                 joined(point_unmasked(set, path, position), joined(unmasked, rest))
             }
         };
@@ -127,16 +155,19 @@ fn check_list(
     Checked::Wrong
 }
 
-// The checks on the sheet, with an accepted file of this many tasks.
-pub fn check_sheet(file: &[u8], sheet: &[u16], tasks: usize) -> Check
-    requires { ⌜ (accepted (readingOf (now file)) ≡ true) × (tasks ≡ taskCount (now file)) ⌝ }
-    ensures { λ r. ⌜ r ≡ nestedSheetCheck (now (file .entry)) (now (sheet .entry)) ⌝ }
+// Checks 13 and 16 on all runs of a sheet that keeps the rules of check 12.
+pub fn check_runs(
+    file: &[u8],
+    sheet: &[u16],
+    starts: &[usize],
+    jumps: &[u32],
+    unmasked: &[u32],
+) -> Check
+    requires { ⌜ RunReads (now file) (now sheet) 7 0 × HasStarts (now file) (now starts) × HasJumps (now file) (now jumps)
+        × HasUnmasked (now file) (now unmasked) ⌝ }
+    ensures { λ r. ⌜ r ≡ runsCheck (now (file .entry)) (now (sheet .entry)) ⌝ }
 {
-    let fault = sheet_fault(sheet, tasks);
-    if fault != 0 {
-        return refused(fault);
-    }
-    match check_run(file, sheet, 0, 7) {
+    match check_run(file, sheet, starts, jumps, unmasked, 0, 7) {
         Checked::Wrong => refused(13),
         Checked::Right { next, unmasked } => if unmasked { Check::Passed } else { refused(16) },
     }

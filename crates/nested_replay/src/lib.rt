@@ -1,14 +1,24 @@
 // Nested replay: the misses of a run and of all runs within it, from an empty cache.
 mod checks;
+mod maps;
 mod totals;
 
 ghost use mathlib.Core.Path.{_≡_};
-ghost use Rattle.project.specs.Reading.{headCheck};
+ghost use mathlib.Core.Bool.{true};
+ghost use Rattle.project.specs.File.{taskCount};
+ghost use Rattle.project.specs.Reading.{headCheck, readingOf};
+ghost use Rattle.project.specs.Bodies.{accepted};
+ghost use Rattle.project.specs.Tasks.{fileShape};
 ghost use Rattle.nested_replay.specs.NestedReplay.{nestedReplayingOf};
 use cache::blocks::CacheShape;
 use cache::numbers::byte_count;
-use checks::check_sheet;
+use checks::check_runs;
+use maps::all_jumps;
+use maps::all_starts;
+use maps::all_unmasked;
+use nested_sheet::rules::sheet_fault;
 use project::answers::Check;
+use project::answers::NO_TASK;
 use project::answers::Reading;
 use project::head::head;
 use reader::read_bodies;
@@ -20,6 +30,29 @@ pub enum NestedReplaying {
     Refused { check: u8, task: u8 },
 }
 
+// The answer for an accepted file of this many tasks and this shape.
+fn replay_sheet(file: &[u8], sheet: &[u16], tasks: usize, shape: CacheShape) -> NestedReplaying
+    requires { ⌜ (accepted (readingOf (now file)) ≡ true) × (tasks ≡ taskCount (now file)) × (shape ≡ fileShape (now file)) ⌝ }
+    ensures { λ r. ⌜ r ≡ nestedReplayingOf (now (file .entry)) (now (sheet .entry)) ⌝ }
+{
+    let fault = sheet_fault(sheet, tasks);
+    if fault != 0 {
+        return NestedReplaying::Refused {
+            check: fault,
+            task: NO_TASK,
+        };
+    }
+    let starts = all_starts(file, tasks);
+    let jumps = all_jumps(file, tasks);
+    let unmasked = all_unmasked(file, tasks);
+    match check_runs(file, sheet, &starts, &jumps, &unmasked) {
+        Check::Refused { check, task } => NestedReplaying::Refused { check, task },
+        Check::Passed => NestedReplaying::Counted {
+            total: total_misses(file, sheet, &starts, shape),
+        },
+    }
+}
+
 // The answer for a file whose first eight bytes passed their checks.
 fn replay_bodies(file: &[u8], sheet: &[u16]) -> NestedReplaying
     requires { ⌜ headCheck (now file) ≡ Check.Passed ⌝ }
@@ -27,12 +60,12 @@ fn replay_bodies(file: &[u8], sheet: &[u16]) -> NestedReplaying
 {
     match read_bodies(file) {
         Reading::Refused { check, task } => NestedReplaying::Refused { check, task },
-        Reading::Accepted { n, t } => match check_sheet(file, sheet, byte_count(t)) {
-            Check::Refused { check, task } => NestedReplaying::Refused { check, task },
-            Check::Passed => NestedReplaying::Counted {
-                total: total_misses(file, sheet, CacheShape { blocks: n }),
-            },
-        },
+        Reading::Accepted { n, t } => replay_sheet(
+            file,
+            sheet,
+            byte_count(t),
+            CacheShape { blocks: n },
+        ),
     }
 }
 

@@ -11,8 +11,7 @@ ghost use Rattle.runs.specs.Running.{PathIn};
 ghost use Rattle.runs.specs.Parts.{referencesAt, partOf, lastPoint, PartIn};
 ghost use Rattle.nested_sheet.specs.NestedRuns.{ownList, listOf, nestedRunOf};
 ghost use Rattle.nested_replay.specs.NestedReplay.{totalIn};
-ghost use Rattle.nested_replay.specs.Passes.{heldTotal, restReferences, referencesFrom, RunReplays, ListReplays};
-use body::walk;
+ghost use Rattle.nested_replay.specs.Passes.{heldTotal, restReferences, referencesFrom, RunReplays, ListReplays, HasStarts};
 use cache::blocks::CacheShape;
 use cache::numbers::count;
 use cache::row::Row;
@@ -78,23 +77,26 @@ fn total_rest(
     total_part(body, starts, path, from, end, shape, cache)
 }
 
-// The run that begins at `at`; its runs lie at most `deep` one within the other.
+// The run that begins at `at`; its runs lie at most `deep` one within the other. `starts` says where the blocks of each task begin.
 fn total_run(
     file: &[u8],
     sheet: &[u16],
+    starts: &[usize],
     at: usize,
     deep: usize,
     shape: CacheShape,
     cache: TotalCache,
 ) -> Totalled
-    requires { ⌜ RunReplays (now file) (now sheet) deep at × (shape ≡ fileShape (now file))
+    requires { ⌜ HasStarts (now file) (now starts) × RunReplays (now file) (now sheet) deep at × (shape ≡ fileShape (now file))
         × (cache .misses + length (referencesFrom (now file) (now sheet) deep at) < 2 ^ 64) ⌝ }
     ensures { λ r. ⌜ (heldTotal (r .cache) ≡ ownReferences (shaped 32 shape) (heldTotal cache)
         (referencesFrom (now (file .entry)) (now (sheet .entry)) deep at))
         × (r .next ≡ ownList deep (now (sheet .entry)) at .next) ⌝ }
 {
-    let body = task_body(file, count(sheet[at]));
-    let starts = walk(body).starts;
+    let task = count(sheet[at]);
+    let body = task_body(file, task);
+    let base = 24 * task;
+    let own_starts = &starts[base..base + 24];
     let first = at + 2;
     let end = first + count(sheet[at + 1]);
     let path = &sheet[first..end];
@@ -106,8 +108,9 @@ fn total_run(
     total_list(
         file,
         sheet,
+        starts,
         body,
-        &starts,
+        own_starts,
         path,
         from,
         end + 1,
@@ -119,12 +122,13 @@ fn total_run(
 }
 
 // The list of `left` runs that begins at `at`, in a run of the body's task along the path, where the point `from` is reached; and then the rest of the
-// path.
+// path. `own_starts` is the part of `starts` for that task.
 fn total_list(
     file: &[u8],
     sheet: &[u16],
-    body: &[u8],
     starts: &[usize],
+    body: &[u8],
+    own_starts: &[usize],
     path: &[u16],
     from: PathPoint,
     at: usize,
@@ -133,7 +137,7 @@ fn total_list(
     shape: CacheShape,
     cache: TotalCache,
 ) -> Totalled
-    requires { ⌜ PathIn (now body) (now starts) (now path)
+    requires { ⌜ HasStarts (now file) (now starts) × PathIn (now body) (now «own_starts») (now path)
         × ListReplays (now file) (now sheet) (taskOf (decode (now body))) (now path) from (listOf deep (now sheet) left at)
         × (shape ≡ fileShape (now file))
         × (cache .misses + length (restReferences (tasksOf (now file)) (taskOf (decode (now body))) (now path) from
@@ -143,7 +147,7 @@ fn total_list(
         × (r .next ≡ listOf deep (now (sheet .entry)) left at .next) ⌝ }
 {
     if left == 0 || deep == 0 {
-        let all = total_rest(body, starts, path, from, shape, cache);
+        let all = total_rest(body, own_starts, path, from, shape, cache);
         return Totalled {
             cache: all,
             next: at,
@@ -153,8 +157,8 @@ fn total_list(
         position: count(sheet[at]),
         done: count(sheet[at + 1]),
     };
-    let own = total_part(body, starts, path, from, to, shape, cache);
-    let inner = total_run(file, sheet, at + 2, deep - 1, shape, own);
+    let own = total_part(body, own_starts, path, from, to, shape, cache);
+    let inner = total_run(file, sheet, starts, at + 2, deep - 1, shape, own);
     let cells = inner.cache.cells;
     let after = TotalCache {
         cells,
@@ -163,8 +167,9 @@ fn total_list(
     total_list(
         file,
         sheet,
-        body,
         starts,
+        body,
+        own_starts,
         path,
         to,
         inner.next,
@@ -176,12 +181,12 @@ fn total_list(
 }
 
 // The total of the nested run of a sheet that passed its checks.
-pub fn total_misses(file: &[u8], sheet: &[u16], shape: CacheShape) -> u64
-    requires { ⌜ RunReplays (now file) (now sheet) 7 0 × (shape ≡ fileShape (now file)) ⌝ }
+pub fn total_misses(file: &[u8], sheet: &[u16], starts: &[usize], shape: CacheShape) -> u64
+    requires { ⌜ HasStarts (now file) (now starts) × RunReplays (now file) (now sheet) 7 0 × (shape ≡ fileShape (now file)) ⌝ }
     ensures { λ r. ⌜ r ≡ totalIn (now (file .entry)) (nestedRunOf (now (sheet .entry))) ⌝ }
 {
     let cells = Row::EMPTY.cells();
     let empty = TotalCache { cells, misses: 0 };
-    let all = total_run(file, sheet, 0, 7, shape, empty);
+    let all = total_run(file, sheet, starts, 0, 7, shape, empty);
     all.cache.misses
 }

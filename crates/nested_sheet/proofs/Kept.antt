@@ -3,28 +3,28 @@
 use mathlib.Core.Path.{_≡_, refl, sym, ap, _∙_}
 use mathlib.Core.Logic.{_≢_}
 use mathlib.Core.Bool.{Bool, true, false, _&&_, cond, false≢true, true≢false}
-use mathlib.Core.List.{List, [], _∷_, _++_, append-nil, append-assoc}
-use Prim.Native.Nat.{ℕ, zero, suc, _+_, _^_, _≤_, _<_}
+use mathlib.Core.List.{List, [], _∷_, _++_, append-nil}
+use Prim.Native.Nat.{ℕ, zero, suc, _+_, _^_, _≤_}
 use native.Mathlib.Omega.{arith}
 use lib.Bits.{bitOr}
 use lib.Dec.{eqb, ltb, leb}
-use lib.ListN.{length, getD, take, drop, take-append-drop, drop-of-length-le}
+use lib.ListN.{length, getD, drop, take-append-drop, drop-of-length-le}
 use lib.Seq.{drop-drop}
 use borrow.Author.Tests.{eqb-true, ltb-true, leb-true, eq-eqb}
 use Rattle.cache.specs.Sets.{inSet}
 use Rattle.cache.proofs.Members.{in-empty}
 use Rattle.model.specs.Lists.{mem}
-use Rattle.model.specs.Nested.{RunList, noRun, aRun, RiseFrom, Outside}
+use Rattle.model.specs.Nested.{RiseFrom, Outside}
 use Rattle.model.proofs.Membership.{both-left, both-right, or-left, or-right}
-use Rattle.sheet.specs.Sheet.{Sheet, PathInBounds}
-use Rattle.sheet.specs.Parsed.{pathTest, notBefore}
+use Rattle.sheet.specs.Sheet.{PathInBounds}
+use Rattle.sheet.specs.Parsed.{pathTest}
 use Rattle.sheet.proofs.RuleLaws.{head}
 use Rattle.sheet.proofs.Parsing.{passes-not-before, path-read}
 use Rattle.nested_sheet.specs.NestedSheet.{NestedSheetRun, howMany, withHead, listNumbers, nestedNumbers, RunInRules, ListInRules, ListWithin, NestedInRules, deepest}
 use Rattle.nested_sheet.specs.declared.rules.End.{End}
 use Rattle.nested_sheet.specs.declared.rules.End.the-variants.{At, Fault}
-use Rattle.nested_sheet.specs.Reading.{headEnd, onwards, runBy, pointTest, runsBy, listEnd, runEnd, wholeFault, sheetFault}
-use Rattle.nested_sheet.specs.NestedRuns.{taskAt, pathAt, countAt, listStart, ListAt, listAt, withRun, runsOf, listOf, ownList, nestedRunOf}
+use Rattle.nested_sheet.specs.Reading.{headEnd, onwards, pointTest, runsBy, listEnd, runEnd, wholeFault, sheetFault}
+use Rattle.nested_sheet.specs.NestedRuns.{taskAt, pathAt, countAt, listStart, ListAt, runsOf, listOf, ownList, nestedRunOf}
 use Rattle.nested_sheet.proofs.Numbers.{head-apart}
 use Rattle.nested_sheet.proofs.EndLaws.{isAt, place, HeadKept, head-says}
 use Rattle.nested_sheet.proofs.RunByRun.{HasTasks, more-tasks, sheet-agrees}

@@ -1,26 +1,26 @@
 -- The numbers of a nested run that keeps the rules: read from the front none is at fault, `numbers-pass`, and the run that they say is that run, `run-of-numbers`.
 -- The idea: an induction on the list of runs, with the runs around it.
 use mathlib.Core.Path.{_≡_, refl, sym, ap, ap₂, _∙_}
-use mathlib.Core.Logic.{_⊎_, inl, inr, _≢_}
-use mathlib.Core.Bool.{Bool, true, false, _&&_, _||_, cond, and-false}
+use mathlib.Core.Logic.{inl, inr, _≢_}
+use mathlib.Core.Bool.{false, and-false}
 use mathlib.Core.List.{List, [], _∷_, _++_, append-nil, append-assoc}
 use Prim.Native.Nat.{ℕ, zero, suc, _+_, _-_, _≤_, _<_}
 use native.Mathlib.Numerals.{sub-one}
 use native.Mathlib.Omega.{arith}
-use lib.Dec.{eqb, ltb, leb}
+use lib.Dec.{eqb}
 use lib.ListN.{length, getD, take, drop, length-append}
 use lib.Seq.{drop-append-seam, drop-drop, getD-drop, take-at}
-use borrow.Author.Tests.{eqb-true, eq-eqb, ne-eqb, lt-ltb, le-ltb, le-leb}
-use Rattle.model.specs.Lists.{mem, Each}
+use borrow.Author.Tests.{ne-eqb, lt-ltb, le-ltb, le-leb}
+use Rattle.model.specs.Lists.{mem}
 use Rattle.model.specs.Runs.{NotBefore}
 use Rattle.model.specs.Nested.{RunList, noRun, aRun, RiseFrom, Outside}
 use Rattle.sheet.specs.Sheet.{Sheet, PathInBounds, longestPath}
 use Rattle.nested_sheet.specs.NestedSheet.{NestedSheetRun, howMany, withHead, listNumbers, nestedNumbers, RunInRules, ListInRules, ListWithin, NestedInRules, deepest}
-use Rattle.nested_sheet.specs.FrontToBack.{Around, Next, aTask, aLength, aBlock, aCount, aPosition, aDone, noNumber, tasksOf, atFront, goingOn, after}
+use Rattle.nested_sheet.specs.FrontToBack.{Around, Next, aTask, aLength, aBlock, aCount, aPosition, aDone, tasksOf, goingOn, after}
 use Rattle.nested_sheet.specs.Reading.{checkOf, firstOf, firstFault, sheetFault}
 use Rattle.nested_sheet.specs.NestedRuns.{taskAt, pathAt, countAt, listStart, ListAt, listAt, withRun, runsOf, listOf, ownList, nestedRunOf}
 
--- a run around, whose task is j
+-- the run of a task along a path of `long` blocks, with `left` runs of its list to begin after the point (i, d)
 abbrev pub frame : ℕ → ℕ → ℕ → ℕ → ℕ → Around
 frame j long left i d = record { task = j; long = long; left = left; position = i; done = d }
 
@@ -33,11 +33,11 @@ head-apart p path count os rs zs =
 
 module _ (t : ℕ) where
   -- a number that is not at fault leads on
-  pub leads-on : (e : Next) (x : ℕ) (xs : List ℕ) → checkOf t e x ≡ 0 → firstFault t e (x ∷ xs) ≡ firstFault t (after e x) xs
+  leads-on : (e : Next) (x : ℕ) (xs : List ℕ) → checkOf t e x ≡ 0 → firstFault t e (x ∷ xs) ≡ firstFault t (after e x) xs
   leads-on e x xs h = ap (λ (c : ℕ). firstOf c (firstFault t (after e x) xs)) h
 
   -- no block is at fault
-  pub blocks-lead-on : (j long left : ℕ) (around : List Around) (path rest : List ℕ) → length path ≡ suc left
+  blocks-lead-on : (j long left : ℕ) (around : List Around) (path rest : List ℕ) → length path ≡ suc left
       → firstFault t (aBlock j long left around) (path ++ rest) ≡ firstFault t (aCount j long around) rest
   blocks-lead-on j long left around [] rest e = absurd (omega (arith, e))
   blocks-lead-on j long zero around (b ∷ []) rest e = refl
@@ -58,7 +58,7 @@ module _ (t : ℕ) where
         go zero l h = refl
         go (suc c) l h = rw (le-leb (suc c) 16 l, ne-eqb (length around) deepest (h (omega arith)), and-false)
 
-    pub head-leads-on : firstFault t (aTask around) (withHead p path count rest) ≡ firstFault t (goingOn (frame p (length path) count 0 0 ∷ around)) rest
+    head-leads-on : firstFault t (aTask around) (withHead p path count rest) ≡ firstFault t (goingOn (frame p (length path) count 0 0 ∷ around)) rest
     head-leads-on =
         leads-on (aTask around) p (length path ∷ (path ++ (count ∷ rest))) (rw (lt-ltb p t there, outside-mem p (tasksOf around) outside))
         ∙ leads-on (aLength p around) (length path) (path ++ (count ∷ rest)) (rw (le-leb 1 (length path) (bounds .some), le-leb (length path) longestPath (bounds .few)))
@@ -83,7 +83,7 @@ module _ (t : ℕ) where
   shallow-by (suc left) tasks (aRun i d by path own rest) n h e l z = omega (arith, e, z)
 
   -- a list with a run left goes on with its point
-  pub going-on : (j long left i d : ℕ) (around : List Around) → goingOn (frame j long (suc left) i d ∷ around) ≡ aPosition (frame j long (suc left) i d) around
+  going-on : (j long left i d : ℕ) (around : List Around) → goingOn (frame j long (suc left) i d ∷ around) ≡ aPosition (frame j long (suc left) i d) around
   going-on j long left i d around = rw (ne-eqb (suc left) 0 (λ e. omega (arith, e)))
 
   list-leads-on : (xs : RunList) (deep j long i d : ℕ) (around : List Around) (zs : List ℕ) → ListInRules t long xs → ListWithin deep (j ∷ tasksOf around) xs → RiseFrom i d xs

@@ -23,11 +23,8 @@ use Rattle.nested_sheet.specs.FrontToBack.{Around, aTask, aLength, aBloc
 use Rattle.nested_sheet.specs.declared.rules.End.{End}
 use Rattle.nested_sheet.specs.declared.rules.End.the-variants.{At, Fault}
 use Rattle.nested_sheet.specs.Reading.{firstOf, firstFault, sheetFault, onwards, runBy, pointTest, runsBy, listEnd, runEnd, EndsIn, wholeFault}
+use Rattle.nested_sheet.proofs.Numbers.{frame}
 use Rattle.nested_sheet.proofs.EndLaws.{run-ends}
-
--- the run of a task along a path of `long` blocks, with `left` runs of its list to begin after the point (i, d)
-abbrev pub frame : ℕ → ℕ → ℕ → ℕ → ℕ → Around
-frame j long left i d = record { task = j; long = long; left = left; position = i; done = d }
 
 -- the fault of a run or a list, or that of the numbers after it, which lie within the runs of the stack
 abbrev pub continued : ℕ → Sheet → List Around → End → ℕ

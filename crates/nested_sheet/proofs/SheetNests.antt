@@ -8,14 +8,14 @@ use Prim.Native.Nat.{ℕ, zero, suc, _≤_}
 use native.Mathlib.Omega.{arith}
 use lib.ListN.{length, getD}
 use Rattle.model.specs.Tasks.{Block, Task, block, Path, Complete, task}
-use Rattle.model.specs.Nested.{RunList, noRun, aRun, RiseFrom, Outside, RunsIn, NestedRun}
+use Rattle.model.specs.Nested.{RunList, noRun, aRun, RunsIn, NestedRun}
 use Rattle.model.specs.Computed.{unmasked}
 use Rattle.model.proofs.Membership.{both-left, both-right}
 use Rattle.model.proofs.Most.{unmasked-exact}
-use Rattle.sheet.specs.Sheet.{Sheet, longestPath}
+use Rattle.sheet.specs.Sheet.{Sheet}
 use Rattle.sheet.specs.Parsed.{completePath, rightDone}
 use Rattle.sheet.proofs.CompletePaths.{complete-exact, right-done-exact}
-use Rattle.nested_sheet.specs.NestedSheet.{NestedSheetRun, howMany, nestedNumbers, ListInRules, ListWithin, NestedInRules, KeepsNested, ListRight, ListUnmasked, Nested13, Nested16, ListFits, NestedFits, nestedSheetRun, nestedSheet, deepest}
+use Rattle.nested_sheet.specs.NestedSheet.{NestedSheetRun, nestedNumbers, ListInRules, ListWithin, NestedInRules, KeepsNested, ListRight, ListUnmasked, Nested13, Nested16, ListFits, NestedFits, nestedSheetRun, nestedSheet, deepest}
 use Rattle.nested_sheet.specs.Reading.{sheetFault}
 use Rattle.nested_sheet.specs.NestedRuns.{nestedRunOf, listRight, listUnmasked, nestedRight, nestedUnmasked}
 use Rattle.nested_sheet.proofs.Numbers.{numbers-pass, run-of-numbers}

@@ -2,6 +2,7 @@
 ghost use mathlib.Core.Path.{_≡_};
 ghost use mathlib.Core.Bool.{true};
 ghost use Prim.Native.Nat.{_≤_};
+ghost use lib.ListN.{length};
 ghost use Rattle.body.specs.Decode.{decode, taskOf};
 ghost use Rattle.body.specs.Walk.{keptOf};
 ghost use Rattle.sheet.specs.Parsed.{completePath, completeBySets};
@@ -10,9 +11,9 @@ use body::walk;
 use cache::numbers::count;
 
 // Whether the path begins in block 0, steps to blocks in the set of the one before and ends in the last of the blocks.
-fn steps_to_end(sets: [u32; 24], blocks: usize, path: &[u16]) -> bool
-    requires { ⌜ (1 ≤ blocks) × (blocks ≤ 24) ⌝ }
-    ensures { λ r. ⌜ r ≡ completeBySets sets blocks (now (path .entry)) ⌝ }
+pub fn steps_to_end(sets: &[u32], blocks: usize, path: &[u16]) -> bool
+    requires { ⌜ (1 ≤ blocks) × (blocks ≤ 24) × (length (now sets) ≡ 24) ⌝ }
+    ensures { λ r. ⌜ r ≡ completeBySets (now (sets .entry)) blocks (now (path .entry)) ⌝ }
 {
     if path.len() < 1 {
         return false;
@@ -41,5 +42,6 @@ pub fn complete(body: &[u8], path: &[u16]) -> bool
 {
     let walked = walk(body);
     let blocks = walked.blocks;
-    steps_to_end(jumps(body, walked), blocks, path)
+    let sets = jumps(body, walked);
+    steps_to_end(&sets, blocks, path)
 }

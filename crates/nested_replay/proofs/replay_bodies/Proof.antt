@@ -1,11 +1,9 @@
--- `replay_bodies` meets its contract: the reading of the bodies and then the checks on the sheet decide. Assumes nothing.
+-- `replay_bodies` meets its contract: the reading of the bodies and then the sheet decide. Assumes nothing.
 use mathlib.Core.Path.{_≡_, sym, ap, _∙_}
-use Rattle.project.specs.declared.answers.Check.the-variants.{Passed}
 use Rattle.project.specs.declared.answers.Reading.the-variants.{Accepted}
 use Rattle.project.specs.Reading.{readingOf}
 use Rattle.project.specs.Bodies.{accepted}
-use Rattle.nested_replay.specs.NestedReplay.{nestedSheetCheck}
-use Rattle.nested_replay.proofs.CallLaws.{call-refused, tasks-of, shape-of, call-sheet, ready, call-counted}
+use Rattle.nested_replay.proofs.CallLaws.{call-refused, tasks-of, shape-of}
 use borrow.Author.Needs.{needs}
 use Rattle.nested_replay.proofs.replay_bodies.Statement.{statement}
 use Rattle.nested_replay.proofs.replay_bodies.Tie as tie
@@ -13,12 +11,6 @@ use Rattle.nested_replay.proofs.replay_bodies.Tie as tie
 -- n and t are the file's
 reading : (c : tie.After-n) → readingOf (c .before .before .before .before .before .args .file .now) ≡ Accepted (c .n .given .0 .0) (c .n .given .0 .1 .0)
 reading c = sym (c .before .before .read-bodies .ensures) ∙ c .n .given .1
-
--- the checks on the sheet pass
-passed : (c : tie.After-enum-told)
-    → let args = c .before .before .before .before .before .before .before .before .before .before .args in
-    nestedSheetCheck (args .file .now) (args .sheet .now) ≡ Passed
-passed c = sym (c .before .before .check-sheet .ensures) ∙ c .enum-told .given .1
 
 read-bodies-requires : tie.Need-read-bodies-requires
 read-bodies-requires c κs = search needs
@@ -32,23 +24,11 @@ enum-known-n c = search needs
 byte-count-requires : tie.Need-byte-count-requires
 byte-count-requires c κs = search needs
 
-check-sheet-requires : tie.Need-check-sheet-requires
-check-sheet-requires c κs =
+replay-sheet-requires : tie.Need-replay-sheet-requires
+replay-sheet-requires c κs =
     let n = c .before .before in
-    let args = n .before .before .before .before .before .args in
-    (ap accepted (reading n), tasks-of (args .file .now) (args .sheet .now) (reading n) (c .byte-count .ensures .0))
-
-enum-known-check-2 : tie.Need-enum-known-check-2
-enum-known-check-2 c = search needs
-
-enum-told : tie.Need-enum-told
-enum-told c = search needs
-
-total-misses-requires : tie.Need-total-misses-requires
-total-misses-requires c κs =
-    let n = c .before .before .before .before .before in
-    let args = n .before .before .before .before .before .args in
-    (ready (args .file .now) (args .sheet .now) (reading n) (passed c), shape-of (args .file .now) (args .sheet .now) (reading n))
+    let s = n .before .before .before .before .before .args .file .now in
+    (ap accepted (reading n), tasks-of s (reading n) (c .byte-count .ensures .0), shape-of s (reading n))
 
 returns : tie.Need-returns
 returns c =
@@ -56,18 +36,7 @@ returns c =
     call-refused (args .file .now) (args .sheet .now) (sym (c .before .before .before .read-bodies .ensures) ∙ c .before .check .given .1)
 
 returns-2 : tie.Need-returns-2
-returns-2 c =
-    let k = c .before .before .before in
-    let n = k .before .before .before in
-    let args = n .before .before .before .before .before .args in
-    call-sheet (args .file .now) (args .sheet .now) (reading n) (sym (k .check-sheet .ensures) ∙ c .before .check2 .given .1)
-
-returns-3 : tie.Need-returns-3
-returns-3 c =
-    let told = c .before in
-    let n = told .before .before .before .before .before in
-    let args = n .before .before .before .before .before .args in
-    call-counted (args .file .now) (args .sheet .now) (reading n) (passed told) (c .total-misses .ensures)
+returns-2 c = search needs
 
 pub replay-bodies-spec : {M : Type 1} → statement M
 replay-bodies-spec =
@@ -77,10 +46,6 @@ replay-bodies-spec =
     enum-known-check
     enum-known-n
     byte-count-requires
-    check-sheet-requires
-    enum-known-check-2
-    enum-told
-    total-misses-requires
+    replay-sheet-requires
     returns
-    returns-2
-    returns-3)
+    returns-2)

@@ -18,19 +18,22 @@ walk-requires c κs = search needs
 jumps-requires : tie.Need-jumps-requires
 jumps-requires c κs = search needs
 
+slice-aggregate-steps-to-end : tie.Need-slice-aggregate-steps-to-end
+slice-aggregate-steps-to-end c = search needs
+
 steps-to-end-requires : tie.Need-steps-to-end-requires
 steps-to-end-requires c κs =
-    let f = facts (c .before) in
-    (omega (arith, f .long, f .bounds .some), omega (arith, f .long, f .bounds .few))
+    let f = facts (c .before .before) in
+    (omega (arith, f .long, f .bounds .some), omega (arith, f .long, f .bounds .few), search needs)
 
 returns : tie.Need-returns
 returns c =
-    let f = facts (c .before .before) in
-    let path = c .before .before .before .before .before .args .path .now in
+    let f = facts (c .before .before .before) in
+    let path = c .before .before .before .before .before .before .args .path .now in
     c .steps-to-end .ensures
-    ∙ ap₂ (λ sets blocks. completeBySets sets blocks path) (c .before .jumps .ensures ∙ ap jumpSets (f .same)) (f .long)
+    ∙ ap₂ (λ sets blocks. completeBySets sets blocks path) (c .before .before .jumps .ensures ∙ ap jumpSets (f .same)) (f .long)
     ∙ complete-by-sets (f .its) (f .bounds) path
     ∙ ap (λ t. completePath t path) (sym (f .same))
 
 pub complete-spec : {M : Type 1} → statement M
-complete-spec = tie.close (tie.spec walk-requires jumps-requires steps-to-end-requires returns)
+complete-spec = tie.close (tie.spec walk-requires jumps-requires slice-aggregate-steps-to-end steps-to-end-requires returns)
