@@ -120,6 +120,7 @@ pub record ByRun (s sheet : List ℕ) (at y m : ℕ) : Type 0 where
   pub there : y < taskCount s
   pub within : at + 4 + m ≤ length sheet
   pub below : All (λ (b : ℕ). b < length (task (tasksOf s) y)) (byPart sheet at m)
+  pub some : 0 < length (byPart sheet at m)
   pub few : length (byPart sheet at m) ≤ longestPath
 
 module _ (s sheet : List ℕ) (shape : CacheShape) (h : Passed13 s sheet) (blocks : shape ≡ fileShape s) where
@@ -253,6 +254,7 @@ module _ (s sheet : List ℕ) (shape : CacheShape) (h : Passed13 s sheet) (block
           there = omega (arith, z .places .task-at, z .rule .there);
           within = omega (arith, z .places .long-at, z .places .within);
           below = rw (by-task, by-part) (complete-blocks (task ts (z .first .by)) (z .first .path) (z .here));
+          some = omega (arith, ap length by-part, z .rule .bounds .some);
           few = omega (arith, ap length by-part, z .rule .bounds .few);
         }
 

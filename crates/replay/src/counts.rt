@@ -23,7 +23,7 @@ use runs::both_runs::BothRuns;
 use runs::part::PathPoint;
 use runs::part::after_part_both;
 use runs::part::last_point;
-use runs::path::run_path;
+use runs::part::run_path;
 use runs::replay_cache::ReplayCache;
 
 // Both runs at first, with two empty caches.
@@ -42,7 +42,7 @@ fn empty_runs() -> BothRuns
 // Both runs after a preemption by a path of the task numbered j: it changes the disturbed row alone; what it misses isn't counted.
 fn preempted(file: &[u8], j: usize, path: &[u16], shape: CacheShape, runs: BothRuns) -> BothRuns
     requires { ⌜ (accepted (readingOf (now file)) ≡ true) × (j < taskCount (now file)) × (shape ≡ fileShape (now file))
-        × All (λ b. b < length (task (tasksOf (now file)) j)) (now path) × (16 * length (now path) < 2 ^ 32) ⌝ }
+        × All (λ b. b < length (task (tasksOf (now file)) j)) (now path) × (0 < length (now path)) × (16 * length (now path) < 2 ^ 32) ⌝ }
     ensures { λ r. ⌜ heldBoth r ≡ preemptedBoth (shaped 32 shape) (heldBoth runs) (references (task (tasksOf (now (file .entry))) j)
         (now (path .entry))) ⌝ }
 {

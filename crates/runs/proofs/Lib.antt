@@ -10,6 +10,5 @@ pub mod LentCache
 pub mod LentRow
 pub mod ReferCaller
 pub mod BothLaws
-pub mod PathCaller
 pub mod PartCaller
 pub mod BothEvents

@@ -1,18 +1,32 @@
--- What callers of `part_on` have, in their walks by hand: a point of a path as a machine value, what the function asks, and what it gives.
-use Rattle.runs.proofs.Walking.{_≡_, refl, ap, subst, ℕ, _≤_, _<_, _^_, [], _∷_, List, Holds, hasTy, WT, URA, named, w64, Val, vint, SProp, ent, sep, ex, guard, id⊢, Lft, Share, ftrue, flft, Memory, Routine, Heap}
+-- What callers of `part_on` have, in their walks by hand: a slice and a point of a path as machine values, what the function asks, and what it gives.
+use Rattle.runs.proofs.Walking.{_≡_, refl, ap, subst, ℕ, _≤_, _<_, _^_, [], _∷_, List, Holds, hasTy, WT, URA, named, w64, Val, vint, SProp, ent, sep, ex, guard, id⊢, Lft, Share, Fml, ftrue, flft, Memory, Routine, Heap}
 use Rattle.runs.proofs.Walking.{Atoms, sem, Fun, fact, Given, ‵, raw, _⊛_, ⋆, some, later, _$_, _∵_, !, qed, move, keep, drop, use1, rewrite, split, join, pick, fjoin, frame, await, updating}
-use Rattle.runs.proofs.Walking.{at-once, show, check, done, Is, shows, uint-makes, u8, usize, RefT, ShrSlice, shr-slice-tells, only, owned, peeks, heard, nothing, Contract, tripleOf}
+use Rattle.runs.proofs.Walking.{at-once, show, check, done, Is, shows, uint-makes, u8, u16, usize, RefT, sliceVal, ShrSlice, shr-slice-tells, only, owned, peeks, heard, nothing, Contract, tripleOf}
 use Rattle.runs.proofs.Walking.{says, ensured, lasts}
+use lib.ListN.{length}
 use denote.Struct.Laws as LL
 use Rattle.cache.specs.References.{numbers}
 use Rattle.body.specs.Decode.{decode, taskOf}
 use Rattle.runs.specs.Running.{PathIn}
 use Rattle.runs.specs.Parts.{partAt, PartIn}
 use Rattle.runs.specs.declared.part.PathPoint.{PathPoint}
-use Rattle.runs.proofs.PathCaller.{slice, Body-own, Starts-own, Path-own}
 use Rattle.runs.proofs.part.PathPoint as P
 use Rattle.runs.proofs.part.PathPoint.Laws as P′
 use Rattle.runs.proofs.part.part_on as part-on
+
+-- a slice's machine value
+abbrev pub slice : RefT (List ℕ) → Val
+slice s = sliceVal (s .ptr) (length (s .now))
+
+-- what the body, the blocks' beginnings and the path own
+abbrev pub Body-own : Lft → RefT (List ℕ) → Fml
+Body-own κ s = ShrSlice (named 0) κ u8 .own s (slice s ∷ [])
+
+abbrev pub Starts-own : Lft → RefT (List ℕ) → Fml
+Starts-own κ s = ShrSlice (named 1) κ usize .own s (slice s ∷ [])
+
+abbrev pub Path-own : Lft → RefT (List ℕ) → Fml
+Path-own κ s = ShrSlice (named 2) κ u16 .own s (slice s ∷ [])
 
 -- a point's machine value, and what says that it is one
 abbrev pub pointVal : PathPoint → Val

@@ -1,31 +1,20 @@
--- What references do to the row and to the count: those of a path leave the row of all its references, each block has at most 16, the count grows by
--- the misses, and references of two lists are made one list after the other.
+-- What references do to the count: it grows by the misses, and each block of a path has at most 16. References of two lists are made one list after
+-- the other.
 -- Each is an induction on the references or on the path.
-use mathlib.Core.Path.{_≡_, refl, sym, ap, _∙_}
+use mathlib.Core.Path.{_≡_, refl}
 use mathlib.Core.Bool.{not}
 use mathlib.Core.List.{List, [], _∷_, _++_}
 use Prim.Native.Nat.{ℕ, zero, suc, _+_, _*_, _-_, _≤_}
 use native.Mathlib.Omega.{arith}
 use lib.ListN.{length, drop, length-append, length-take, length-drop}
-use Rattle.cache.specs.Cache.{Cache, hits, withReferences, misses}
-use Rattle.cache.proofs.Rows.{withReferences-append}
+use Rattle.cache.specs.Cache.{Cache, hits, misses}
 use Rattle.cache.proofs.Sums.{bit-le}
 use Rattle.model.specs.Tasks.{Block, Task, block, references}
 use Rattle.model.specs.Runs.{RowCount, ownReferences}
-use Rattle.model.proofs.RunEvents.{own-row}
 use Rattle.body.specs.Layout.{InBounds}
 use Rattle.body.proofs.Decoded.{few-references}
-use Rattle.runs.specs.Running.{withOwn, ownPath}
+use Rattle.runs.specs.Running.{withOwn}
 use Rattle.runs.specs.Parts.{between}
-
--- ---- the row
-
-pub path-row : (k : Cache) (t : Task) (p : List ℕ) (s : RowCount) → ownPath k t s p .row ≡ withReferences k (s .row) (references t p)
-path-row k t [] s = refl
-path-row k t (b ∷ p) s =
-    path-row k t p (ownReferences k s (block t b .references))
-    ∙ ap (λ (r : List ℕ). withReferences k r (references t p)) (own-row k s (block t b .references))
-    ∙ sym (withReferences-append k (s .row) (block t b .references) (references t p))
 
 -- ---- the count
 

@@ -1,26 +1,23 @@
--- The references of a path, and of a part of one, in the code's words: a turn of the loop over the blocks.
+-- A body that was walked, and a part of a path in the code's words: a turn of the loop over its blocks.
 -- The idea: what is left, run from here, gives what the whole gives from the start.
-use mathlib.Core.Path.{_≡_, sym, ap, _∙_}
+use mathlib.Core.Path.{_≡_, sym, ap}
 use mathlib.Core.Bool.{true}
 use mathlib.Core.List.{List, [], _∷_}
 use Prim.Native.Nat.{ℕ, zero, suc, _+_, _-_, _≤_, _<_}
 use native.Mathlib.Nat.{not-suc-le-zero}
-use native.Mathlib.Numerals.{add-one}
 use native.Mathlib.Omega.{arith}
-use lib.ListN.{length, getD, drop, replicate, length-append, drop-of-length-le}
-use lib.Seq.{drop-cons}
+use lib.ListN.{length, getD, replicate, length-append}
 use Rattle.cache.specs.References.{All, numbers}
 use Rattle.cache.specs.Cache.{Cache}
 use Rattle.cache.proofs.NumberLaws.{length-numbers}
-use Rattle.model.specs.Tasks.{Block, Task, block}
+use Rattle.model.specs.Tasks.{Task, block}
 use Rattle.model.specs.Runs.{RowCount, ownReferences}
 use Rattle.body.specs.Layout.{InBounds}
 use Rattle.body.specs.Decode.{decode, taskOf}
 use Rattle.body.specs.Walk.{startsFrom, keptOf, startsOf}
-use Rattle.body.proofs.Decoded.{decoded-bounds, few-references}
+use Rattle.body.proofs.Decoded.{decoded-bounds}
 use Rattle.body.proofs.Walks.{length-starts}
 use Rattle.body.proofs.WalksParts.{BlockParts, kept-decoded, walked-parts}
-use Rattle.runs.specs.Running.{rowCount, ownPath}
 use Rattle.runs.specs.Parts.{partAt, PartIn}
 use Rattle.runs.specs.declared.part.PathPoint.{PathPoint}
 use Rattle.runs.proofs.PathCounts.{own-bound, own-append}
@@ -46,21 +43,6 @@ pub starts-long : (s starts : List ℕ) → keptOf (decode s) ≡ true → start
 starts-long s starts k es =
     let (t, q) = kept-decoded (decode s) k in
     rw (es, q) (omega (arith, length-append (startsFrom 2 t) (replicate (24 - length t) 0), length-starts 2 t))
-
-module _ (k : Cache) (t : Task) (path : List ℕ) (i : ℕ) (cells : List ℕ) (old : ℕ) where
-  pub path-turn : (bytes : List ℕ) {b : ℕ} {next : List ℕ} {new : ℕ} → i < length path → b ≡ getD path i 0 → numbers bytes ≡ block t b .references
-      → rowCount next new ≡ ownReferences k (rowCount cells old) (numbers bytes) → ownPath k t (rowCount next new) (drop (i + 1) path) ≡ ownPath k t (rowCount cells old) (drop i path)
-  path-turn bytes h eb er en =
-      ap (λ (x : RowCount). ownPath k t x (drop (i + 1) path)) (en ∙ ap (ownReferences k (rowCount cells old)) (er ∙ ap (λ b. block t b .references) eb))
-      ∙ ap (ownPath k t (rowCount cells old)) (sym (drop-cons path i 0 h ∙ ap (λ j. getD path i 0 ∷ drop j path) (sym (add-one i))))
-
-  pub path-end : length path ≤ i → rowCount cells old ≡ ownPath k t (rowCount cells old) (drop i path)
-  path-end h = ap (ownPath k t (rowCount cells old)) (sym (drop-of-length-le path {i = i} h))
-
-  pub block-adds : InBounds t → (b : ℕ) (bytes : List ℕ) {next : List ℕ} {new : ℕ} → numbers bytes ≡ block t b .references → rowCount next new ≡ ownReferences k (rowCount cells old) (numbers bytes)
-      → new ≤ old + 16
-  block-adds h b bytes er en =
-      omega (arith, ap (λ (x : RowCount). x .count) en, own-bound k (numbers bytes) (rowCount cells old), ap length er, few-references t h b)
 
 -- ---- the blocks of a part of a path
 

@@ -1,4 +1,4 @@
--- A row and a count after references: one, and those of a path's blocks; the same for both runs of a replay. Definitions only.
+-- A row and a count after a reference, and after references in both runs of a replay; what a run asks of a body and a path. Definitions only.
 use mathlib.Core.Path.{_≡_}
 use mathlib.Core.Bool.{true, not, _&&_}
 use mathlib.Core.List.{List, [], _∷_}
@@ -7,8 +7,8 @@ use lib.ListN.{length}
 use Rattle.cache.specs.Sum.{bit}
 use Rattle.cache.specs.References.{All}
 use Rattle.cache.specs.Cache.{Cache, Row, hits, withReference, withReferences}
-use Rattle.model.specs.Tasks.{Block, Task, Path, block}
-use Rattle.model.specs.Runs.{RowCount, atFirst, ownReferences}
+use Rattle.model.specs.Tasks.{Path}
+use Rattle.model.specs.Runs.{RowCount, atFirst}
 use Rattle.body.specs.Decode.{decode, taskOf}
 use Rattle.body.specs.Walk.{keptOf, startsOf}
 use Rattle.runs.specs.declared.replay_cache.ReplayCache.{ReplayCache}
@@ -24,11 +24,6 @@ held c = rowCount (c .cells) (c .misses)
 -- one reference, which adds 1 if it misses
 abbrev pub withOwn : Cache → RowCount → ℕ → RowCount
 withOwn k s m = record { row = withReference k (s .row) m; count = s .count + bit (not (hits k (s .row) m)) }
-
--- the references of the blocks of a path, in order
-abbrev pub ownPath : Cache → Task → RowCount → Path → RowCount
-ownPath k t s [] = s
-ownPath k t s (b ∷ p) = ownPath k t (ownReferences k s (block t b .references)) p
 
 -- a body that keeps its layout, and blocks of its task
 pub record RunsIn (body : List ℕ) (path : Path) : Type 0 where

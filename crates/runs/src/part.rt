@@ -1,12 +1,13 @@
 // The references of a part of a path, from point to point, made on one cache, or on both caches of a run. The caches are lent for the whole part.
 ghost use mathlib.Core.Path.{_≡_};
-ghost use Prim.Native.Nat.{_+_, _^_, _≤_, _<_};
+ghost use Prim.Native.Nat.{_+_, _*_, _^_, _≤_, _<_};
 ghost use lib.ListN.{length};
 ghost use Rattle.cache.specs.References.{numbers};
 ghost use Rattle.cache.specs.Shape.{shaped, Holds};
+ghost use Rattle.model.specs.Tasks.{references};
 ghost use Rattle.model.specs.Runs.{ownReferences};
 ghost use Rattle.body.specs.Decode.{decode, taskOf};
-ghost use Rattle.runs.specs.Running.{held, both, heldBoth, CountsFit, ownBoth, PathIn};
+ghost use Rattle.runs.specs.Running.{held, both, heldBoth, CountsFit, ownBoth, PathIn, RunsIn};
 ghost use Rattle.runs.specs.Parts.{partOf, partAt, PartIn, lastPoint};
 use crate::both_runs::BothRuns;
 use crate::both_runs::refer_both;
@@ -14,6 +15,7 @@ use crate::path::count_on;
 use crate::path::references_on;
 use crate::replay_cache::ReplayCache;
 use crate::replay_cache::refer_all;
+use body::walk;
 use cache::blocks::CacheShape;
 
 // A point of a path: a position, and how many references of the block there are done.
@@ -95,6 +97,20 @@ pub fn after_part(
     let mut lent = cache;
     refer_part(body, starts, path, from, to, shape, &mut lent);
     lent
+}
+
+// The cache after the references of the blocks of a path of a body's task, in order.
+pub fn run_path(body: &[u8], path: &[u16], shape: CacheShape, cache: ReplayCache) -> ReplayCache
+    requires { ⌜ RunsIn (now body) (now path) × Holds 32 shape × (0 < length (now path)) × (cache .misses + 16 * length (now path) < 2 ^ 32) ⌝ }
+    ensures { λ r. ⌜ held r ≡ ownReferences (shaped 32 shape) (held cache) (references (taskOf (decode (now (body .entry)))) (now (path .entry))) ⌝ }
+{
+    let starts = walk(body).starts;
+    let first = PathPoint {
+        position: 0,
+        done: 0,
+    };
+    let last = last_point(body, &starts, path);
+    after_part(body, &starts, path, first, last, shape, cache)
 }
 
 // The references between two points of a path, in order, as own references on both lent caches of a run; the lost hits are counted on.

@@ -10,11 +10,11 @@ use Rattle.cache.specs.Shape.{shaped}
 use Rattle.cache.specs.declared.blocks.CacheShape.{CacheShape}
 use Rattle.model.specs.Tasks.{Task, references}
 use Rattle.model.specs.Runs.{RowCount}
+use Rattle.model.proofs.RunEvents.{own-row}
 use Rattle.project.proofs.Accepted.{accepted-passed, file-holds}
 use Rattle.reader.proofs.TaskBodies.{TaskBody, reading, body-kept, body-task}
 use Rattle.reader.proofs.TaskBodies.{task-body as of-task}
 use Rattle.runs.specs.Running.{rowCount, held, both}
-use Rattle.runs.proofs.PathCounts.{path-row}
 use borrow.Author.Needs.{needs}
 use Rattle.replay.proofs.counts.preempted.Statement.{statement}
 use Rattle.replay.proofs.counts.preempted.Tie as tie
@@ -36,7 +36,8 @@ run-path-requires c κs =
         below = subst (λ (t : Task). All (λ b. b < length t) (start .args .path .now)) (sym (body-task file (start .args .j) at part)) (start .pre .3);
       },
       file-holds 32 (omega arith) file (accepted-passed file _ _ (reading file (start .pre .0)) .0) (ap (λ (x : CacheShape). x .blocks) (start .pre .2)),
-      omega (arith, start .pre .4),
+      start .pre .4,
+      omega (arith, start .pre .5),
     )
 
 returns : tie.Need-returns
@@ -47,7 +48,7 @@ returns c =
     let runs = start .args .runs in
     let same = body-task (start .args .file .now) (start .args .j) (of-file start) (c .before .before .task-body .ensures .0) in
     ap (λ (row : List ℕ). both (held (runs .undisturbed)) (rowCount row (runs .disturbed .misses)) (runs .lost)) (
-    ap (λ (a : RowCount). a .row) (c .before .run-path .ensures) ∙ path-row k _ path (rowCount (runs .disturbed .cells) 0)
+    ap (λ (a : RowCount). a .row) (c .before .run-path .ensures) ∙ own-row k (rowCount (runs .disturbed .cells) 0) (references _ path)
     ∙ ap (λ (t : Task). withReferences k (runs .disturbed .cells) (references t path)) same)
 
 pub preempted-spec : {M : Type 1} → statement M

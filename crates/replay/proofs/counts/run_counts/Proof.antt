@@ -231,7 +231,7 @@ part-preempted-end : tie.Need-part-preempted-end Inv-loop μ-loop
 part-preempted-end c = omega (arith, by c .within)
 
 preempted-requires : tie.Need-preempted-requires Inv-loop μ-loop
-preempted-requires c κs = let start = c .before .before .before .before .before .before .before .before .before .before .before .before .before .before .before .before .before .before .before .before .before .before .before .before in let f = by (c .before) in (start .pre .0 .rules .file, f .there, start .pre .1, f .below, omega (arith, f .few))
+preempted-requires c κs = let start = c .before .before .before .before .before .before .before .before .before .before .before .before .before .before .before .before .before .before .before .before .before .before .before .before in let f = by (c .before) in (start .pre .0 .rules .file, f .there, start .pre .1, f .below, f .some, omega (arith, f .few))
 
 loop-less : tie.Need-loop-less Inv-loop μ-loop
 loop-less c = omega arith

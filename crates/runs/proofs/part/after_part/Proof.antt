@@ -25,8 +25,7 @@ use Rattle.runs.specs.declared.replay_cache.ReplayCache.{ReplayCache}
 use Rattle.runs.proofs.replay_cache.ReplayCache as T
 use Rattle.runs.proofs.replay_cache.ReplayCache.Laws as T′
 use Rattle.runs.proofs.LentCache.{shapeVal, ShapeIs, shape-typed, R, mach, Good, at-cell, typed, lends-local, local-back}
-use Rattle.runs.proofs.PathCaller.{slice, Body-own, Starts-own, Path-own}
-use Rattle.runs.proofs.PartCaller.{pointVal, PointIs, point-typed}
+use Rattle.runs.proofs.PartCaller.{slice, Body-own, Starts-own, Path-own, pointVal, PointIs, point-typed}
 use Rattle.runs.proofs.part.PathPoint as P
 use Rattle.runs.proofs.part.PathPoint.Laws as P′
 use Rattle.runs.proofs.part.refer_part as refer-part

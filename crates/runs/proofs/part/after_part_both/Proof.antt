@@ -27,8 +27,7 @@ use Rattle.runs.proofs.both_runs.BothRuns as Q
 use Rattle.runs.proofs.both_runs.BothRuns.Laws as Q′
 use Rattle.runs.proofs.LentCache.{shapeVal, ShapeIs, shape-typed, R, mach, Good, at-cell, typed, lends-local, local-back}
 use Rattle.runs.proofs.ReferCaller.{count-typed}
-use Rattle.runs.proofs.PathCaller.{slice, Body-own, Starts-own, Path-own}
-use Rattle.runs.proofs.PartCaller.{pointVal, PointIs, point-typed}
+use Rattle.runs.proofs.PartCaller.{slice, Body-own, Starts-own, Path-own, pointVal, PointIs, point-typed}
 use Rattle.runs.proofs.part.PathPoint as P
 use Rattle.runs.proofs.part.PathPoint.Laws as P′
 use Rattle.runs.proofs.part.refer_part_both as refer-part-both
