@@ -16,8 +16,8 @@
  * Threads. The calls keep nothing between them, take nothing from the heap and call nothing outside the archive but
  * memcpy and memset, so they may run in several threads at once, on lists that no other thread writes meanwhile.
  * Measured on small and large files alike, crpd_costliest_run takes about 51 KiB of stack, crpd_table about 22 KiB and
- * each other call about 9 KiB at most, but for crpd_nested: about 1 KiB more for each run that comes before or around
- * another, 122 KiB for the deepest run at the end of the longest lists. No proof bounds it.
+ * each other call about 9 KiB at most, but for crpd_nested: about 7 KiB, and 0.75 KiB more for each run that comes before
+ * or around another in its lists, 91 KiB in all for the deepest run at the end of the longest lists. No proof bounds it.
  */
 #ifndef CRPD_H
 #define CRPD_H

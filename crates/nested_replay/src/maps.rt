@@ -1,4 +1,5 @@
 // What the passes need of each task of a file, found once: where its blocks begin, the sets of their successors, and the set of its unmasked blocks.
+// The places of tasks that the file doesn't have are left open.
 ghost use mathlib.Core.Path.{_≡_};
 ghost use mathlib.Core.Bool.{true};
 ghost use lib.ListN.{length};
