@@ -69,29 +69,20 @@ judged t noNumber x = is12 tt
 
 -- ---- all numbers, from any expectation on
 
--- the first number at fault of the list is against a check
-record FirstFrom (t : ℕ) (Against : Next → ℕ → Type 0) (e : Next) (xs : List ℕ) : Type 0 where
-  pub before : List ℕ
-  pub number : ℕ
-  pub behind : List ℕ
-  pub stands : xs ≡ before ++ (number ∷ behind)
-  pub none-before : NoFault t e before
-  pub against : Against (afterAll e before) number
-
 abbrev Only20 : ℕ → Next → ℕ → Type 0
 Only20 t e x = Against20 e x × (Against12 t e x → ⊥)
 
 -- what the test says of the list
 data Outcome (t : ℕ) (e : Next) (xs : List ℕ) : ℕ → Type 0 where
-  first12 : FirstFrom t (Against12 t) e xs → Outcome t e xs 12
-  first20 : FirstFrom t (Only20 t) e xs → Outcome t e xs 20
+  first12 : FirstAgainst t (Against12 t) e xs → Outcome t e xs 12
+  first20 : FirstAgainst t (Only20 t) e xs → Outcome t e xs 20
   short : NoFault t e xs → (afterAll e xs ≡ noNumber → ⊥) → Outcome t e xs 12
   passes : NoFault t e xs → afterAll e xs ≡ noNumber → Outcome t e xs 0
 
-at-once : {t : ℕ} {Against : Next → ℕ → Type 0} {e : Next} (x : ℕ) (xs : List ℕ) → Against e x → FirstFrom t Against e (x ∷ xs)
+at-once : {t : ℕ} {Against : Next → ℕ → Type 0} {e : Next} (x : ℕ) (xs : List ℕ) → Against e x → FirstAgainst t Against e (x ∷ xs)
 at-once x xs h = record { before = []; number = x; behind = xs; stands = refl; none-before = tt; against = h }
 
-later : {t : ℕ} {Against : Next → ℕ → Type 0} {e : Next} (x : ℕ) (xs : List ℕ) → (Against12 t e x → ⊥) → (Against20 e x → ⊥) → FirstFrom t Against (after e x) xs → FirstFrom t Against e (x ∷ xs)
+later : {t : ℕ} {Against : Next → ℕ → Type 0} {e : Next} (x : ℕ) (xs : List ℕ) → (Against12 t e x → ⊥) → (Against20 e x → ⊥) → FirstAgainst t Against (after e x) xs → FirstAgainst t Against e (x ∷ xs)
 later x xs a b f = record {
   before = x ∷ f .before;
   number = f .number;
@@ -164,7 +155,7 @@ pub no-fault-end : (t : ℕ) (e : Next) (xs : List ℕ) → NoFault t e xs → f
 no-fault-end t e xs n = ap (firstFault t e) (sym (append-nil xs)) ∙ skip t e xs [] n
 
 module _ (t : ℕ) (sheet : Sheet) where
-  first-12 : FirstAgainst t (Against12 t) sheet → sheetFault t sheet ≡ 12
+  first-12 : FirstAgainst t (Against12 t) atFront sheet → sheetFault t sheet ≡ 12
   first-12 f =
       ap (sheetFault t) (f .stands) ∙ skip t atFront (f .before) (f .number ∷ f .behind) (f .none-before)
       ∙ ap (λ (c : ℕ). firstOf c (firstFault t (after (afterAll atFront (f .before)) (f .number)) (f .behind))) (check-12 t (afterAll atFront (f .before)) (f .number) (f .against))
@@ -187,12 +178,9 @@ module _ (t : ℕ) (sheet : Sheet) where
   pub sheet-outcome : SheetOutcome (sheetFault t sheet)
   sheet-outcome = go (sheetFault t sheet) (told t sheet atFront)
     where
-      from : {Against : Next → ℕ → Type 0} → FirstFrom t Against atFront sheet → FirstAgainst t Against sheet
-      from f = record { before = f .before; number = f .number; behind = f .behind; stands = f .stands; none-before = f .none-before; against = f .against }
-
       go : (c : ℕ) → Outcome t atFront sheet c → SheetOutcome c
-      go _ (first12 f) = broken12 (inl (from f))
-      go _ (first20 f) = broken20 (from f)
+      go _ (first12 f) = broken12 (inl f)
+      go _ (first20 f) = broken20 f
       go _ (short n m) = broken12 (inr (record { none = n; missing = m }))
       go _ (passes n m) = kept n m
 
@@ -225,7 +213,7 @@ module _ (t : ℕ) (sheet : Sheet) where
   -- ---- the numbers before the first at fault
 
   -- read alone, they are a sheet that passes, and the number is one too many, or they have no fault but being too short
-  pub before-fault : (Against : Next → ℕ → Type 0) (f : FirstAgainst t Against sheet)
+  pub before-fault : (Against : Next → ℕ → Type 0) (f : FirstAgainst t Against atFront sheet)
       → ((sheetFault t (f .before) ≡ 0) × (afterAll atFront (f .before) ≡ noNumber)) ⊎ TooShort t (f .before)
   before-fault Against f = go (afterAll atFront (f .before)) refl
     where

@@ -87,14 +87,14 @@ abbrev pub NoFault : ℕ → Next → List ℕ → Type 0
 NoFault t e [] = Unit {0}
 NoFault t e (x ∷ xs) = (Against12 t e x → ⊥) × (Against20 e x → ⊥) × NoFault t (after e x) xs
 
--- the first number at fault is against a check: no number before it is at fault
-pub record FirstAgainst (t : ℕ) (Against : Next → ℕ → Type 0) (sheet : Sheet) : Type 0 where
+-- where e comes next, the first number at fault of the list is against a check: no number before it is at fault
+pub record FirstAgainst (t : ℕ) (Against : Next → ℕ → Type 0) (e : Next) (xs : List ℕ) : Type 0 where
   pub before : List ℕ
   pub number : ℕ
   pub behind : List ℕ
-  pub stands : sheet ≡ before ++ (number ∷ behind)
-  pub none-before : NoFault t atFront before
-  pub against : Against (afterAll atFront before) number
+  pub stands : xs ≡ before ++ (number ∷ behind)
+  pub none-before : NoFault t e before
+  pub against : Against (afterAll e before) number
 
 -- "run sheet short": no number is at fault, and one is missing
 pub record TooShort (t : ℕ) (sheet : Sheet) : Type 0 where
@@ -103,8 +103,8 @@ pub record TooShort (t : ℕ) (sheet : Sheet) : Type 0 where
 
 -- check 12 of a nested sheet, in a file of t tasks
 abbrev pub Nested12 : ℕ → Sheet → Type 0
-Nested12 t sheet = FirstAgainst t (Against12 t) sheet ⊎ TooShort t sheet
+Nested12 t sheet = FirstAgainst t (Against12 t) atFront sheet ⊎ TooShort t sheet
 
 -- check 20; "12 if both"
 abbrev pub Nested20 : ℕ → Sheet → Type 0
-Nested20 t sheet = FirstAgainst t (λ (e : Next) (x : ℕ). Against20 e x × (Against12 t e x → ⊥)) sheet
+Nested20 t sheet = FirstAgainst t (λ (e : Next) (x : ℕ). Against20 e x × (Against12 t e x → ⊥)) atFront sheet
