@@ -24,9 +24,9 @@ impl Row {
         self.cells
     }
 
-    // A row's lent cells, with m at the cache block c. That m goes there is up to the caller.
-    pub fn with_reference(cells: &mut [u16; 32], c: CacheBlock, m: MemoryBlock)
-        requires { ⌜ (c .0 < 32) × (length (now cells) ≡ 32) ⌝ }
+    // Lent cells of a row, with m at the cache block c: the one place where a reference is stored. That m goes there is up to the caller.
+    pub fn with_reference(cells: &mut [u16], c: CacheBlock, m: MemoryBlock)
+        requires { ⌜ c .0 < length (now cells) ⌝ }
         ensures { λ _. ⌜ now (cells .exit) ≡ set (now (cells .entry)) (c .0) (m .0) ⌝ }
     {
         let at = c.index();
@@ -34,12 +34,21 @@ impl Row {
         cells[at] = v;
     }
 
+    // What the cache block c of lent cells holds.
+    pub fn held(cells: &[u16], c: CacheBlock) -> u16
+        requires { ⌜ c .0 < length (now cells) ⌝ }
+        ensures { λ r. ⌜ r ≡ held (now (cells .entry)) (c .0) ⌝ }
+    {
+        let at = c.index();
+        cells[at]
+    }
+
     // What the cache block c of a row of first references holds after a reference to m: what it held, or m where that was nothing.
-    pub fn first_of(cells: &[u16; 32], c: CacheBlock, m: MemoryBlock) -> MemoryBlock
-        requires { ⌜ (c .0 < 32) × (length (now cells) ≡ 32) ⌝ }
+    pub fn first_of(cells: &[u16], c: CacheBlock, m: MemoryBlock) -> MemoryBlock
+        requires { ⌜ c .0 < length (now cells) ⌝ }
         ensures { λ r. ⌜ r .0 ≡ firstOf (held (now (cells .entry)) (c .0)) (m .0) ⌝ }
     {
-        let old = cells[c.index()];
+        let old = Row::held(cells, c);
         if old == Row::NOTHING {
             m
         } else {

@@ -22,7 +22,7 @@ use Rattle.microseconds.specs.declared.Timing.the-variants.{Timed, Refused}
 use Rattle.microseconds.specs.Microseconds.{largestNumber, Fault17, ExactTime, timingOf, MicrosecondsVerdict}
 use Rattle.microseconds.proofs.MicrosecondsVerdicts.{microseconds-verdict}
 use Rattle.claims.specs.Times.{Answered, NumbersTimed}
-use Rattle.claims.proofs.Demand.{filled-passed, table-place}
+use Rattle.table.proofs.Entries.{filled-passed, table-place}
 
 -- a number that is not over 16
 answered : (number : ℕ) → number ≤ largestNumber → Answered number
@@ -60,4 +60,6 @@ numbers-timed s n t e = record {
 }
   where
     few : (i j : ℕ) → filePair s i j ≤ largestNumber
-    few i j = omega (arith, pair-le (fileCache s) (task (tasksOf s) i) (task (tasksOf s) j), passing s (accepted-passed s n t e .0) .n-high)
+    few i j =
+        let is = passing s (accepted-passed s n t e .0) in
+        omega (arith, pair-le (fileCache s) (task (tasksOf s) i) (task (tasksOf s) j), is .n-high, is .k-high)

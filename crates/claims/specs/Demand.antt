@@ -1,29 +1,20 @@
 -- Demand 3 over files and calls, with document 02, Points 1, 5 and 6, as one claim about an accepted file. Definitions only.
 use mathlib.Core.Path.{_≡_}
 use mathlib.Core.Logic.{_≢_}
-use mathlib.Core.List.{List}
-use Prim.Native.Nat.{ℕ, _+_, _*_, _≤_, _<_}
-use lib.ListN.{length, getD}
+use Prim.Native.Nat.{ℕ, _+_, _≤_, _<_}
+use lib.ListN.{length}
 use Rattle.cache.specs.References.{All}
 use Rattle.model.specs.Tasks.{Unmasked, SomeUnmasked, task}
 use Rattle.model.specs.Numbers.{PairNumber}
 use Rattle.model.specs.Runs.{DisturbedRun, OnceBy, U, D, lostHits}
 use Rattle.model.specs.Demand.{Demand3, BoundedApart}
-use Rattle.project.specs.declared.answers.Filling.the-variants.{Filled}
 use Rattle.project.specs.File.{File, taskCount}
 use Rattle.project.specs.Tasks.{tasksOf, filePair, fileCache}
-use Rattle.rows.specs.Rows.{Area}
-use Rattle.table.specs.Table.{tableAnswer, tableAfter}
+use Rattle.table.specs.Table.{TableEntries}
 use Rattle.sheet.specs.Sheet.{Sheet, Fits, runNumbers}
 use Rattle.replay.specs.declared.Replaying.the-variants.{Counted}
 use Rattle.replay.specs.Replay.{replayingOf}
 use Rattle.replay.specs.ReplayVerdict.{Replayed}
-
--- "where table answers, they are its entries"
-abbrev pub TableEntries : File → Type 0
-TableEntries s =
-    (area : Area) (table : List ℕ) → tableAnswer 16 s area table ≡ Filled → (i j : ℕ) → i < taskCount s → j < taskCount s → j ≢ i
-    → getD (tableAfter 16 s area table) (8 * i + j) 0 ≡ filePair s i j
 
 -- "Its pair numbers are those defined above": over the rows that paths make, at the points of Point 6
 abbrev pub NumbersOfPaths : File → Type 0
@@ -79,7 +70,7 @@ pub record RunsApart (s : File) : Type 0 where
 pub record Demand3Whole (s : File) : Type 0 where
   pub runs : Demand3 (fileCache s) (tasksOf s)
   pub numbers : NumbersOfPaths s
-  pub entries : TableEntries s
+  pub entries : TableEntries 16 s
   pub answers : ReplayAnswers s
   pub described : SheetsDescribe s
   pub sheets : RunsReplayed s

@@ -19,10 +19,9 @@ use Rattle.model.specs.Runs.{Preemption, DisturbedRun, ownHits, lostAtEnd}
 use Rattle.model.specs.Computed.{pairNumber}
 use Rattle.model.proofs.Paths.{path-last, path-snoc}
 use Rattle.model.proofs.Most.{masked-zero}
-use Rattle.model.proofs.Width.{pair-width}
+use Rattle.model.proofs.Width.{pair-width, lost-width}
 use Rattle.model.proofs.Hits.{none-lost}
 use Rattle.model.proofs.Demand.{block-before, inside-before, complete-through, once, split-lost}
-use Rattle.runs.proofs.Widths.{lost-width}
 use Rattle.project.specs.declared.answers.Writing.the-variants.{Written}
 use Rattle.project.specs.File.{cacheBlocks, taskCount}
 use Rattle.project.specs.Reading.{readingOf}

@@ -29,6 +29,7 @@ use project::answers::Reading;
 use project::answers::Writing;
 use project::answers::refused;
 use project::head::head;
+use reader::file_shape;
 use reader::read_bodies;
 use reader::task_body;
 use run_sheet::write_sheet;
@@ -170,18 +171,9 @@ fn run_of_bodies(
 {
     match read_bodies(file) {
         Reading::Refused { check, task } => Writing::Refused { check, task },
-        Reading::Accepted { n, t } => match check_asked(i, j, byte_count(t), sheet) {
+        Reading::Accepted { n: _, t } => match check_asked(i, j, byte_count(t), sheet) {
             Check::Refused { check, task } => Writing::Refused { check, task },
-            Check::Passed => run_of_two(
-                file,
-                CacheShape { blocks: n },
-                16,
-                i,
-                j,
-                first,
-                second,
-                sheet,
-            ),
+            Check::Passed => run_of_two(file, file_shape(file), 16, i, j, first, second, sheet),
         },
     }
 }

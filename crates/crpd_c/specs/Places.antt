@@ -14,7 +14,7 @@ abbrev pub placeStatus : List ℕ → ℕ
 placeStatus found = cond (places 2 found) 0 1
 
 abbrev pub bodyLeft : File → ℕ → List ℕ → List ℕ
-bodyLeft s task found = cond (places 2 found) (placeStart s task ∷ placeLength s task ∷ []) found
+bodyLeft s task found = cond (places 2 found) (placeStart 1 s task ∷ placeLength 1 s task ∷ []) found
 
 -- 0 asks for reaching rows, any other number for live ones
 abbrev pub asksLive : ℕ → Bool

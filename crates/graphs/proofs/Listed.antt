@@ -23,6 +23,7 @@ use Rattle.model.proofs.Paths.{path-first, path-last, successor-below}
 use Rattle.model.proofs.Narrower.{take-replicate}
 use Rattle.model.proofs.Exact.{reaches-on, reaches-first}
 use Rattle.model.proofs.Sorted.{reaching-rows, living-rows, reaching-rising, living-rising}
+use Rattle.model.proofs.Policies.{reaches-long, lives-long}
 use Rattle.body.specs.Layout.{InBounds}
 use Rattle.body.specs.Jumps.{setOf, jumpSets}
 use Rattle.body.proofs.JumpLaws.{jump-at}
@@ -110,15 +111,12 @@ module _ (k : Cache) (t : Task) (few : length t ≤ 24) (some : 1 ≤ length t) 
   pub reach-leads : (b s : ℕ) → b < length t → s < length t → inSet (getD (jumpSets t) b 0) s ≡ mem eqb s (block t b .successors)
   reach-leads b s hb hs = ap (λ x. inSet x s) (jump-at t (replicate (24 - length t) 0) b hb) ∙ in-setOf (block t b .successors) s (omega arith)
 
-  reaches-long : (b : ℕ) (row : List ℕ) → Reaches k t b row → length row ≡ k .width
-  reaches-long b row (p, w, e) = ap length e ∙ length-withReferences k (references t (0 ∷ p)) (emptyRow k) (length-emptyRow k)
-
   gets-reaches : {b : ℕ} {row : List ℕ} → Gets (reachGraph k t) b row → Reaches k t b row
   gets-reaches begins = reaches-first k t some
   gets-reaches (handed {b} {s} {row} h l e) =
       let r = gets-reaches h in
       let hb = path-last t (r .1) in
-      rw (reach-hand b s row (omega arith) l (reaches-long b row r)) (reaches-on k t b s row r (sym (reach-leads b s hb l) ∙ e) l)
+      rw (reach-hand b s row (omega arith) l (reaches-long k t b row r)) (reaches-on k t b s row r (sym (reach-leads b s hb l) ∙ e) l)
 
   path-gets : {b e : ℕ} {p : List ℕ} (row : List ℕ) → length row ≡ k .width → Gets (reachGraph k t) b row → PathFrom t b p e → Gets (reachGraph k t) e (withReferences k row (references t p))
   path-gets row z h (stay l) = h
@@ -147,10 +145,6 @@ module _ (k : Cache) (t : Task) (few : length t ≤ 24) (some : 1 ≤ length t) 
   live-leads b s hb hs =
       ap (λ x. inSet x s) (predecessor-set t 24 0 b hb ∙ ap (predecessorSet t) (zero-add b)) ∙ bits-test 24 s (λ c. mem eqb b (block t c .successors)) (omega arith)
 
-  lives-long : (b : ℕ) (row : List ℕ) → Lives k t b row → length row ≡ k .width
-  lives-long b row (p, w, e) =
-      ap length (e ∙ firstReferences-fold k (references t p)) ∙ length-firstsOver k (references t p) (emptyRow k) (length-emptyRow k)
-
   lives-back : (b s : ℕ) (row : List ℕ) → Lives k t b row → mem eqb b (block t s .successors) ≡ true → Lives k t s (firstsOver k (block t b .references) row)
   lives-back b s row (p, w, e) m = (
     b ∷ p,
@@ -164,7 +158,7 @@ module _ (k : Cache) (t : Task) (few : length t ≤ 24) (some : 1 ≤ length t) 
   gets-lives (handed {b} {s} {row} h l e) =
       let r = gets-lives h in
       let hb = path-first t (r .1) in
-      rw (live-hand b s row hb (omega arith) (lives-long b row r)) (lives-back b s row r (sym (live-leads b s (omega arith) l) ∙ e))
+      rw (live-hand b s row hb (omega arith) (lives-long k t b row r)) (lives-back b s row r (sym (live-leads b s (omega arith) l) ∙ e))
 
   path-live : {b e : ℕ} {p : List ℕ} → e ≡ end t → PathFrom t b p e → Gets (liveGraph k t) b (firstsOver k (references t p) (emptyRow k))
   path-live q (stay l) = rw q begins

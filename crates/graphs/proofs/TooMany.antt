@@ -19,7 +19,7 @@ use Rattle.model.specs.Computed.{sameList, reaching, living}
 use Rattle.model.proofs.Membership.{or-cases, or-left, or-right, each-of, each-at}
 use Rattle.model.proofs.Paths.{path-first, path-last}
 use Rattle.model.proofs.Sorted.{before-self, below-all, reaching-rows, living-rows, reaching-rising, living-rising}
-use Rattle.model.proofs.StatesWidth.{count-reaching, count-living}
+use Rattle.model.proofs.Width.{count-reaching, count-living}
 use Rattle.gather.specs.Graph.{tooMany}
 use Rattle.gather.proofs.Distinct.{Distinct, not-true, no-longer}
 use Rattle.gather.proofs.Gathering.{many-before}

@@ -11,42 +11,43 @@ use native.Mathlib.Omega.{arith}
 use lib.Dec.{eqb}
 use lib.ListN.{length, getD}
 use Rattle.cache.specs.References.{Real, All}
-use Rattle.cache.specs.Cache.{Cache, emptyRow, misses}
+use Rattle.cache.specs.Cache.{Cache, Policy, oneLine, emptyRow, misses}
 use Rattle.cache.specs.Sets.{usefulReplaced}
 use Rattle.cache.proofs.Rows.{length-emptyRow}
 use Rattle.model.specs.Lists.{mem, Each}
 use Rattle.model.specs.Tasks.{Block, Task, block, Done, Allows, Complete, references, memoryBlocks, task, Apart, Rules}
 use Rattle.model.specs.Numbers.{Count}
 use Rattle.model.specs.Runs.{Preemption, Preempts, NeverFall, DisturbedRun, OnceBy, points, U, D, lostHits}
-use Rattle.model.specs.Computed.{allowed, most, pairNumber}
+use Rattle.model.specs.Computed.{allowed, mostOn, pairNumber}
 use Rattle.model.specs.Demand.{pairSum, Bounded, BoundedApart}
 use Rattle.model.proofs.Membership.{all-in, all-of}
 use Rattle.model.proofs.Universe.{references-in}
 use Rattle.model.proofs.Paths.{references-each}
-use Rattle.model.proofs.Exact.{reaches-end}
-use Rattle.model.proofs.Most.{rows-le, allowed-exact}
-use Rattle.model.proofs.Events.{Event, own, disturbed, lost, total, Parts, Clean, EventsApart}
+use Rattle.model.proofs.Exact.{any-reaches-end}
+use Rattle.model.proofs.Policies.{Lawful, one-lawful}
+use Rattle.model.proofs.Most.{any-rows-le, allowed-exact}
+use Rattle.model.proofs.Events.{Event, own, disturbed, lost, totalOn, total, Parts, Clean, EventsApart}
 use Rattle.model.proofs.Lost.{lost-same, upper-same}
 use Rattle.model.proofs.Disjoint.{disturbed-lost}
-use Rattle.model.proofs.Incoming.{weigh, Costs, total-le, own-run, parts-run}
+use Rattle.model.proofs.Incoming.{weigh, CostsOn, any-total-le, own-run, parts-run}
 use Rattle.model.proofs.RunEvents.{positionOf, doneOf, allOf, runEvents, count-events, undisturbed, all-taken}
 use Rattle.model.proofs.Hits.{lost-events}
 
 -- ---- what the preemptions of a run cost, by any count
 
-module _ (v : Count) (k : Cache) (ts : List Task) (p : ℕ) where
+module _ (v : Count) (k : Policy) (law : Lawful k) (ts : List Task) (p : ℕ) where
   abbrev t : Task
   t = task ts p
 
-  abbrev number : Preemption → ℕ
-  number x = most v k t (task ts (x .by)) (allowed t)
+  abbrev pub number : Preemption → ℕ
+  number x = mostOn v k t (task ts (x .by)) (allowed t)
 
-  costs-each : (path : List ℕ) (xs : List Preemption) → Each (Preempts ts p path) xs → Each (Costs positionOf doneOf (allOf ts) v k t path number) xs
+  costs-each : (path : List ℕ) (xs : List Preemption) → Each (Preempts ts p path) xs → Each (CostsOn positionOf doneOf (allOf ts) v k law t path number) xs
   costs-each path [] h = tt
   costs-each path (x ∷ xs) h = (
     λ e l he hl.
-        rows-le v k t (task ts (x .by)) (Allows t) (allowed t) (allowed-exact t) (getD path (x .position) 0) (x .done) e l _ (h .0 .unmasked, h .0 .right) he hl
-        (reaches-end k (task ts (x .by)) (x .path) (h .0 .complete)),
+        any-rows-le v k law t (task ts (x .by)) (Allows t) (allowed t) (allowed-exact t) (getD path (x .position) 0) (x .done) e l _ (h .0 .unmasked, h .0 .right) he hl
+        (any-reaches-end k law (task ts (x .by)) (x .path) (h .0 .complete)),
     costs-each path xs (h .1),
   )
 
@@ -56,10 +57,10 @@ module _ (v : Count) (k : Cache) (ts : List Task) (p : ℕ) where
   points-each path [] h = tt
   points-each path (x ∷ xs) h = ((h .0 .inPath, h .0 .right), points-each path xs (h .1))
 
-  pub run-total : (path : List ℕ) (xs : List Preemption) → Each (Preempts ts p path) xs → NeverFall xs → Complete t path
-      → total v k (emptyRow k) (runEvents ts xs (points t 0 path)) ≤ weigh positionOf doneOf (allOf ts) number xs
-  run-total path xs h rising c =
-      rw (all-taken t path xs rising (points-each path xs h)) at (total-le positionOf doneOf (allOf ts) v k t path number xs (costs-each path xs h) c)
+  pub any-run-total : (path : List ℕ) (xs : List Preemption) → Each (Preempts ts p path) xs → NeverFall xs → Complete t path
+      → totalOn v k (k .first) (runEvents ts xs (points t 0 path)) ≤ weigh positionOf doneOf (allOf ts) number xs
+  any-run-total path xs h rising c =
+      rw (all-taken t path xs rising (points-each path xs h)) at (any-total-le positionOf doneOf (allOf ts) v k law t path number xs (costs-each path xs h) c)
 
 -- ---- whose references the events of a run are
 
@@ -103,7 +104,7 @@ module _ (ts : List Task) (ok : Rules ts) (p : ℕ) where
 
 -- ---- the bounds
 
-sum-weigh : (k : Cache) (ts : List Task) (p : ℕ) (xs : List Preemption) → weigh positionOf doneOf (allOf ts) (number (usefulReplaced k) k ts p) xs ≡ pairSum k ts p xs
+sum-weigh : (k : Cache) (ts : List Task) (p : ℕ) (xs : List Preemption) → weigh positionOf doneOf (allOf ts) (number (usefulReplaced k) (oneLine k) (one-lawful k) ts p) xs ≡ pairSum k ts p xs
 sum-weigh k ts p [] = refl
 sum-weigh k ts p (x ∷ xs) = omega (arith, sum-weigh k ts p xs)
 
@@ -124,7 +125,7 @@ module _ (k : Cache) (ts : List Task) (ok : Rules ts) (r : DisturbedRun ts) wher
   is-lost = lost-events k ts runs (r .path) (r .preemptions)
 
   costs-le : total (usefulReplaced k) k (emptyRow k) events ≤ pairSum k ts (r .p) (r .preemptions)
-  costs-le = omega (arith, run-total (usefulReplaced k) k ts (r .p) (r .path) (r .preemptions) (r .each) (r .rising) (r .complete), sum-weigh k ts (r .p) (r .preemptions))
+  costs-le = omega (arith, any-run-total (usefulReplaced k) (oneLine k) (one-lawful k) ts (r .p) (r .path) (r .preemptions) (r .each) (r .rising) (r .complete), sum-weigh k ts (r .p) (r .preemptions))
 
   pub bounded : Bounded k ts r
   bounded =

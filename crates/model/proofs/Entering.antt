@@ -10,17 +10,18 @@ use lib.Dec.{eqb}
 use lib.ListN.{length, take, drop}
 use lib.Seq.{take-length, drop-length}
 use borrow.Author.Tests.{eqb-true, eqb-false}
-use Rattle.cache.specs.Cache.{Cache, emptyRow, withReferences, firstReferences}
-use Rattle.cache.specs.Firsts.{firstsOver}
-use Rattle.cache.proofs.Rows.{withReferences-append, firstsOver-append, firstReferences-fold}
+use Rattle.cache.specs.Cache.{Cache, Policy, oneLine, emptyRow, referAll, withReferences}
+use Rattle.cache.specs.Firsts.{ahead, firstsOver}
+use Rattle.cache.proofs.Rows.{referAll-append, ahead-append}
 use Rattle.model.specs.Lists.{mem}
 use Rattle.model.specs.Tasks.{Block, Task, block, Done, PathFrom, stay, step, PathTo, references}
-use Rattle.model.specs.States.{Reaches, Lives, ReachesPoint, LivesPoint}
-use Rattle.model.specs.Computed.{State, sameState, inside, nexts, reachingStates, entering, upFrom, dones}
+use Rattle.model.specs.States.{ReachesOn, LivesOn, ReachesPointOn, LivesPointOn, Reaches, Lives, ReachesPoint, LivesPoint}
+use Rattle.model.specs.Computed.{State, sameState, inside, nexts, reachingStatesOn, enteringOn, entering, upFrom, dones}
 use Rattle.model.proofs.Membership.{or-cases, or-left, or-right, one-is, one-has, sameState-self, sameState-true, mem-append-left, mem-append-right, mem-append-cases, states-has, states-only, inside-has, inside-only}
 use Rattle.model.proofs.Closure.{nexts-has, nexts-only}
+use Rattle.model.proofs.Policies.{Lawful, one-lawful}
 use Rattle.model.proofs.Paths.{path-first, path-last, path-snoc, references-join}
-use Rattle.model.proofs.Exact.{reaching-exact}
+use Rattle.model.proofs.Exact.{any-reaching-exact}
 
 -- ---- how many references may be done
 
@@ -94,110 +95,110 @@ module _ (t : Task) where
 
 -- ---- rows before a block
 
-module _ (k : Cache) (t : Task) where
+module _ (k : Policy) (law : Lawful k) (t : Task) where
   -- the rows before the references of the block b, over every path from block 0 to it
-  abbrev pub Enters : ℕ → List ℕ → Type 0
-  Enters b e = (before : List ℕ) × PathTo t before b × (e ≡ withReferences k (emptyRow k) (references t before))
+  abbrev pub EntersOn : ℕ → List ℕ → Type 0
+  EntersOn b e = (before : List ℕ) × PathTo t before b × (e ≡ referAll k (k .first) (references t before))
 
-  pub enters-first : 0 < length t → Enters 0 (emptyRow k)
-  enters-first l = ([], ([], stay l, refl), refl)
+  pub any-enters-first : 0 < length t → EntersOn 0 (k .first)
+  any-enters-first l = ([], ([], stay l, refl), refl)
 
-  pub enters-on : (a b : ℕ) (r : List ℕ) → Reaches k t a r → mem eqb b (block t a .successors) ≡ true → b < length t → Enters b r
-  enters-on a b r (p, w, d) m l = (0 ∷ p, (p ++ (b ∷ []), path-snoc t b w m l, refl), d)
+  pub any-enters-on : (a b : ℕ) (r : List ℕ) → ReachesOn k t a r → mem eqb b (block t a .successors) ≡ true → b < length t → EntersOn b r
+  any-enters-on a b r (p, w, d) m l = (0 ∷ p, (p ++ (b ∷ []), path-snoc t b w m l, refl), d)
 
   -- nothing came before, or a predecessor did
-  abbrev pub EntersFrom : ℕ → List ℕ → Type 0
-  EntersFrom b e = ((b ≡ 0) × (e ≡ emptyRow k)) ⊎ ((a : ℕ) × Reaches k t a e × (mem eqb b (block t a .successors) ≡ true))
+  abbrev pub EntersFromOn : ℕ → List ℕ → Type 0
+  EntersFromOn b e = ((b ≡ 0) × (e ≡ k .first)) ⊎ ((a : ℕ) × ReachesOn k t a e × (mem eqb b (block t a .successors) ≡ true))
 
-  pub enters-cases : (b : ℕ) (e : List ℕ) → Enters b e → EntersFrom b e
-  enters-cases b e ([], (p, w, q), d) = inl (zero-is q, d)
+  pub any-enters-cases : (b : ℕ) (e : List ℕ) → EntersOn b e → EntersFromOn b e
+  any-enters-cases b e ([], (p, w, q), d) = inl (zero-is q, d)
     where
       zero-is : 0 ∷ p ≡ b ∷ [] → b ≡ 0
       zero-is z = cc
-  enters-cases b e (c ∷ before, (p, w, q), d) =
-      let h = last-step t before b w (ap tail q) in inr (h .from, (before, h .path, d ∙ ap (λ (x : ℕ). withReferences k (emptyRow k) (references t (x ∷ before))) (zero-is q)), h .leads)
+  any-enters-cases b e (c ∷ before, (p, w, q), d) =
+      let h = last-step t before b w (ap tail q) in inr (h .from, (before, h .path, d ∙ ap (λ (x : ℕ). referAll k (k .first) (references t (x ∷ before))) (zero-is q)), h .leads)
     where
       zero-is : 0 ∷ p ≡ c ∷ (before ++ (b ∷ [])) → c ≡ 0
       zero-is z = cc
 
-  enters-below : (b : ℕ) (e : List ℕ) → Enters b e → b < length t
+  enters-below : (b : ℕ) (e : List ℕ) → EntersOn b e → b < length t
   enters-below b e (before, (p, w, q), d) = path-last t w
 
   -- ---- computed rows before a block
 
-  abbrev ahead : State → List State
-  ahead x = map (λ (s : ℕ). (s, x .1)) (inside t (block t (x .0) .successors))
+  abbrev onward : State → List State
+  onward x = map (λ (s : ℕ). (s, x .1)) (inside t (block t (x .0) .successors))
 
-  enters-has : (b : ℕ) (e : List ℕ) → b < length t → EntersFrom b e → mem sameState (b, e) (entering k t) ≡ true
+  enters-has : (b : ℕ) (e : List ℕ) → b < length t → EntersFromOn b e → mem sameState (b, e) (enteringOn k t) ≡ true
   enters-has b e l (inl (z, d)) =
-      rw (z, d) (mem-append-left sameState sameState-self sameState-true (0, emptyRow k) (map (λ (s : ℕ). (s, emptyRow k)) (inside t (0 ∷ []))) (nexts ahead (reachingStates k t))
-      (states-has (λ (s : ℕ). (s, emptyRow k)) 0 (inside t (0 ∷ [])) (inside-has t 0 (0 ∷ []) (rw z at l) (one-has 0))))
+      rw (z, d) (mem-append-left sameState sameState-self sameState-true (0, k .first) (map (λ (s : ℕ). (s, k .first)) (inside t (0 ∷ []))) (nexts onward (reachingStatesOn k t))
+      (states-has (λ (s : ℕ). (s, k .first)) 0 (inside t (0 ∷ [])) (inside-has t 0 (0 ∷ []) (rw z at l) (one-has 0))))
   enters-has b e l (inr (a, h, m)) =
-      mem-append-right sameState sameState-self sameState-true (b, e) (map (λ (s : ℕ). (s, emptyRow k)) (inside t (0 ∷ []))) (nexts ahead (reachingStates k t))
-      (nexts-has sameState sameState-self sameState-true ahead (a, e) (b, e) (reachingStates k t) (reaching-exact k t a e .1 h)
+      mem-append-right sameState sameState-self sameState-true (b, e) (map (λ (s : ℕ). (s, k .first)) (inside t (0 ∷ []))) (nexts onward (reachingStatesOn k t))
+      (nexts-has sameState sameState-self sameState-true onward (a, e) (b, e) (reachingStatesOn k t) (any-reaching-exact k law t a e .1 h)
       (states-has (λ (s : ℕ). (s, e)) b (inside t (block t a .successors)) (inside-has t b (block t a .successors) l m)))
 
-  state-enters : (x y : State) → y ≡ x → Enters (x .0) (x .1) → Enters (y .0) (y .1)
+  state-enters : (x y : State) → y ≡ x → EntersOn (x .0) (x .1) → EntersOn (y .0) (y .1)
   state-enters x y q h = rw q h
 
-  enters-only : (y : State) → mem sameState y (entering k t) ≡ true → Enters (y .0) (y .1)
-  enters-only y e = go (mem-append-cases sameState sameState-self sameState-true y (map (λ (s : ℕ). (s, emptyRow k)) (inside t (0 ∷ []))) (nexts ahead (reachingStates k t)) e)
+  enters-only : (y : State) → mem sameState y (enteringOn k t) ≡ true → EntersOn (y .0) (y .1)
+  enters-only y e = go (mem-append-cases sameState sameState-self sameState-true y (map (λ (s : ℕ). (s, k .first)) (inside t (0 ∷ []))) (nexts onward (reachingStatesOn k t)) e)
     where
-      first : (s : ℕ) → mem eqb s (inside t (0 ∷ [])) ≡ true → Enters s (emptyRow k)
-      first s m = let (l, o) = inside-only t s (0 ∷ []) m in let z = one-is s 0 o in rw z (enters-first (rw z at l))
+      first : (s : ℕ) → mem eqb s (inside t (0 ∷ [])) ≡ true → EntersOn s (k .first)
+      first s m = let (l, o) = inside-only t s (0 ∷ []) m in let z = one-is s 0 o in rw z (any-enters-first (rw z at l))
 
-      later : (x : State) (s : ℕ) → mem sameState x (reachingStates k t) ≡ true → mem eqb s (inside t (block t (x .0) .successors)) ≡ true → Enters s (x .1)
-      later x s h m = let (l, o) = inside-only t s (block t (x .0) .successors) m in enters-on (x .0) s (x .1) (reaching-exact k t (x .0) (x .1) .0 h) o l
+      later : (x : State) (s : ℕ) → mem sameState x (reachingStatesOn k t) ≡ true → mem eqb s (inside t (block t (x .0) .successors)) ≡ true → EntersOn s (x .1)
+      later x s h m = let (l, o) = inside-only t s (block t (x .0) .successors) m in any-enters-on (x .0) s (x .1) (any-reaching-exact k law t (x .0) (x .1) .0 h) o l
 
-      go : (mem sameState y (map (λ (s : ℕ). (s, emptyRow k)) (inside t (0 ∷ []))) ≡ true) ⊎ (mem sameState y (nexts ahead (reachingStates k t)) ≡ true) → Enters (y .0) (y .1)
-      go (inl q) = let (s, m, d) = states-only (λ (s : ℕ). (s, emptyRow k)) y (inside t (0 ∷ [])) q in state-enters (s, emptyRow k) y d (first s m)
+      go : (mem sameState y (map (λ (s : ℕ). (s, k .first)) (inside t (0 ∷ []))) ≡ true) ⊎ (mem sameState y (nexts onward (reachingStatesOn k t)) ≡ true) → EntersOn (y .0) (y .1)
+      go (inl q) = let (s, m, d) = states-only (λ (s : ℕ). (s, k .first)) y (inside t (0 ∷ [])) q in state-enters (s, k .first) y d (first s m)
       go (inr q) =
-          let (x, h, n) = nexts-only sameState sameState-self sameState-true ahead y (reachingStates k t) q in
+          let (x, h, n) = nexts-only sameState sameState-self sameState-true onward y (reachingStatesOn k t) q in
           let (s, m, d) = states-only (λ (s : ℕ). (s, x .1)) y (inside t (block t (x .0) .successors)) n in
           state-enters (s, x .1) y d (later x s h m)
 
   -- a block is computed with a row exactly when some path comes to the block with it
-  pub entering-exact : (b : ℕ) (e : List ℕ) → (mem sameState (b, e) (entering k t) ≡ true) ↔ Enters b e
-  entering-exact b e = (λ m. enters-only (b, e) m, λ h. enters-has b e (enters-below b e h) (enters-cases b e h))
+  pub any-entering-exact : (b : ℕ) (e : List ℕ) → (mem sameState (b, e) (enteringOn k t) ≡ true) ↔ EntersOn b e
+  any-entering-exact b e = (λ m. enters-only (b, e) m, λ h. enters-has b e (enters-below b e h) (any-enters-cases b e h))
 
   -- ---- rows at a point, from the rows before the block and those after it
 
-  pub at-point : (b d : ℕ) (e : List ℕ) → Enters b e → ReachesPoint k t b d (withReferences k e (take d (block t b .references)))
-  at-point b d e (before, p, q) = (before, p, rw (q, withReferences-append k (emptyRow k) (references t before) (take d (block t b .references))))
+  pub any-at-point : (b d : ℕ) (e : List ℕ) → EntersOn b e → ReachesPointOn k t b d (referAll k e (take d (block t b .references)))
+  any-at-point b d e (before, p, q) = (before, p, rw (q, referAll-append k (k .first) (references t before) (take d (block t b .references))))
 
   left-row : (b d : ℕ) (p : List ℕ)
-      → firstReferences k (drop d (block t b .references) ++ references t p) ≡ firstsOver k (drop d (block t b .references)) (firstReferences k (references t p))
+      → k .next (drop d (block t b .references) ++ references t p) ≡ ahead k (drop d (block t b .references)) (k .next (references t p))
   left-row b d p =
-      firstReferences-fold k (drop d (block t b .references) ++ references t p)
-      ∙ firstsOver-append k (drop d (block t b .references)) (references t p) (emptyRow k)
-      ∙ ap (firstsOver k (drop d (block t b .references))) (sym (firstReferences-fold k (references t p)))
+      law .next-is (drop d (block t b .references) ++ references t p)
+      ∙ ahead-append k (drop d (block t b .references)) (references t p) (k .first)
+      ∙ ap (ahead k (drop d (block t b .references))) (sym (law .next-is (references t p)))
 
-  pub live-point : (b d : ℕ) (l : List ℕ) → Lives k t b l → LivesPoint k t b d (firstsOver k (drop d (block t b .references)) l)
-  live-point b d l (p, w, q) = (p, w, rw q (sym (left-row b d p)))
+  pub any-live-point : (b d : ℕ) (l : List ℕ) → LivesOn k t b l → LivesPointOn k t b d (ahead k (drop d (block t b .references)) l)
+  any-live-point b d l (p, w, q) = (p, w, rw q (sym (left-row b d p)))
 
-  pub record BeforePoint (b d : ℕ) (row : List ℕ) : Type 0 where
+  pub record BeforePointOn (b d : ℕ) (row : List ℕ) : Type 0 where
     pub before : List ℕ
-    pub enters : Enters b before
-    pub same : row ≡ withReferences k before (take d (block t b .references))
+    pub enters : EntersOn b before
+    pub same : row ≡ referAll k before (take d (block t b .references))
 
-  pub point-before : (b d : ℕ) (row : List ℕ) → ReachesPoint k t b d row → BeforePoint b d row
-  point-before b d row (before, p, q) = record {
-    before = withReferences k (emptyRow k) (references t before);
+  pub any-point-before : (b d : ℕ) (row : List ℕ) → ReachesPointOn k t b d row → BeforePointOn b d row
+  any-point-before b d row (before, p, q) = record {
+    before = referAll k (k .first) (references t before);
     enters = (before, p, refl);
-    same = q ∙ withReferences-append k (emptyRow k) (references t before) (take d (block t b .references));
+    same = q ∙ referAll-append k (k .first) (references t before) (take d (block t b .references));
   }
 
-  pub record AfterPoint (b d : ℕ) (row : List ℕ) : Type 0 where
+  pub record AfterPointOn (b d : ℕ) (row : List ℕ) : Type 0 where
     pub after : List ℕ
-    pub lives : Lives k t b after
-    pub same : row ≡ firstsOver k (drop d (block t b .references)) after
+    pub lives : LivesOn k t b after
+    pub same : row ≡ ahead k (drop d (block t b .references)) after
 
-  pub point-after : (b d : ℕ) (row : List ℕ) → LivesPoint k t b d row → AfterPoint b d row
-  point-after b d row (p, w, q) = record { after = firstReferences k (references t p); lives = (p, w, refl); same = q ∙ left-row b d p }
+  pub any-point-after : (b d : ℕ) (row : List ℕ) → LivesPointOn k t b d row → AfterPointOn b d row
+  any-point-after b d row (p, w, q) = record { after = k .next (references t p); lives = (p, w, refl); same = q ∙ left-row b d p }
 
   -- the block of a point is one of the task
-  pub point-inside : (b d : ℕ) (row : List ℕ) → ReachesPoint k t b d row → b < length t
-  point-inside b d row (before, (p, w, q), e) = path-last t w
+  pub any-point-inside : (b d : ℕ) (row : List ℕ) → ReachesPointOn k t b d row → b < length t
+  any-point-inside b d row (before, (p, w, q), e) = path-last t w
 
   -- ---- where all references of the block are done, the point is the block's end
 
@@ -207,14 +208,62 @@ module _ (k : Cache) (t : Task) where
       ap (λ (ms : List ℕ). references t before ++ ms) (take-length (block t b .references) ∙ sym (append-nil (block t b .references)))
       ∙ sym (references-join t before (b ∷ [])) ∙ ap (references t) (sym q)
 
-  pub point-reaches : (b : ℕ) (row : List ℕ) → ReachesPoint k t b (length (block t b .references)) row ↔ Reaches k t b row
-  point-reaches b row = (
-    λ (before, (p, w, q), e). (p, w, e ∙ ap (withReferences k (emptyRow k)) (all-done before p b q)),
-    λ (p, w, e). let (before, q) = path-before t w in (before, (p, w, q), e ∙ ap (withReferences k (emptyRow k)) (sym (all-done before p b q))),
+  pub any-point-reaches : (b : ℕ) (row : List ℕ) → ReachesPointOn k t b (length (block t b .references)) row ↔ ReachesOn k t b row
+  any-point-reaches b row = (
+    λ (before, (p, w, q), e). (p, w, e ∙ ap (referAll k (k .first)) (all-done before p b q)),
+    λ (p, w, e). let (before, q) = path-before t w in (before, (p, w, q), e ∙ ap (referAll k (k .first)) (sym (all-done before p b q))),
   )
 
-  pub point-lives : (b : ℕ) (row : List ℕ) → LivesPoint k t b (length (block t b .references)) row ↔ Lives k t b row
-  point-lives b row = (
-    λ (p, w, e). (p, w, e ∙ ap (λ (ms : List ℕ). firstReferences k (ms ++ references t p)) (drop-length (block t b .references))),
-    λ (p, w, e). (p, w, e ∙ ap (λ (ms : List ℕ). firstReferences k (ms ++ references t p)) (sym (drop-length (block t b .references)))),
+  pub any-point-lives : (b : ℕ) (row : List ℕ) → LivesPointOn k t b (length (block t b .references)) row ↔ LivesOn k t b row
+  any-point-lives b row = (
+    λ (p, w, e). (p, w, e ∙ ap (λ (ms : List ℕ). k .next (ms ++ references t p)) (drop-length (block t b .references))),
+    λ (p, w, e). (p, w, e ∙ ap (λ (ms : List ℕ). k .next (ms ++ references t p)) (sym (drop-length (block t b .references)))),
   )
+
+-- ---- document 01's cache
+
+module _ (k : Cache) (t : Task) where
+  abbrev pub Enters : ℕ → List ℕ → Type 0
+  Enters = EntersOn (oneLine k) (one-lawful k) t
+
+  abbrev pub EntersFrom : ℕ → List ℕ → Type 0
+  EntersFrom = EntersFromOn (oneLine k) (one-lawful k) t
+
+  abbrev pub BeforePoint : ℕ → ℕ → List ℕ → Type 0
+  BeforePoint = BeforePointOn (oneLine k) (one-lawful k) t
+
+  abbrev pub AfterPoint : ℕ → ℕ → List ℕ → Type 0
+  AfterPoint = AfterPointOn (oneLine k) (one-lawful k) t
+
+  pub enters-first : 0 < length t → Enters 0 (emptyRow k)
+  enters-first = any-enters-first (oneLine k) (one-lawful k) t
+
+  pub enters-on : (a b : ℕ) (r : List ℕ) → Reaches k t a r → mem eqb b (block t a .successors) ≡ true → b < length t → Enters b r
+  enters-on = any-enters-on (oneLine k) (one-lawful k) t
+
+  pub enters-cases : (b : ℕ) (e : List ℕ) → Enters b e → EntersFrom b e
+  enters-cases = any-enters-cases (oneLine k) (one-lawful k) t
+
+  pub entering-exact : (b : ℕ) (e : List ℕ) → (mem sameState (b, e) (entering k t) ≡ true) ↔ Enters b e
+  entering-exact = any-entering-exact (oneLine k) (one-lawful k) t
+
+  pub at-point : (b d : ℕ) (e : List ℕ) → Enters b e → ReachesPoint k t b d (withReferences k e (take d (block t b .references)))
+  at-point = any-at-point (oneLine k) (one-lawful k) t
+
+  pub live-point : (b d : ℕ) (l : List ℕ) → Lives k t b l → LivesPoint k t b d (firstsOver k (drop d (block t b .references)) l)
+  live-point = any-live-point (oneLine k) (one-lawful k) t
+
+  pub point-before : (b d : ℕ) (row : List ℕ) → ReachesPoint k t b d row → BeforePoint b d row
+  point-before = any-point-before (oneLine k) (one-lawful k) t
+
+  pub point-after : (b d : ℕ) (row : List ℕ) → LivesPoint k t b d row → AfterPoint b d row
+  point-after = any-point-after (oneLine k) (one-lawful k) t
+
+  pub point-inside : (b d : ℕ) (row : List ℕ) → ReachesPoint k t b d row → b < length t
+  point-inside = any-point-inside (oneLine k) (one-lawful k) t
+
+  pub point-reaches : (b : ℕ) (row : List ℕ) → ReachesPoint k t b (length (block t b .references)) row ↔ Reaches k t b row
+  point-reaches = any-point-reaches (oneLine k) (one-lawful k) t
+
+  pub point-lives : (b : ℕ) (row : List ℕ) → LivesPoint k t b (length (block t b .references)) row ↔ Lives k t b row
+  point-lives = any-point-lives (oneLine k) (one-lawful k) t

@@ -1,5 +1,5 @@
 -- A run of references with preemptions anywhere between them, and what a preemption costs it. Definitions for the proofs alone.
--- What the references are and where preemptions stand is left open; the cache may have any width and any place function.
+-- What the references are and where preemptions stand is left open; the cache may be of any kind.
 use mathlib.Core.Path.{_≡_}
 use mathlib.Core.Bool.{Bool, true, false, not, _&&_}
 use mathlib.Core.List.{List, [], _∷_}
@@ -7,8 +7,8 @@ use Prim.Native.Nat.{ℕ, suc, _+_}
 use lib.Dec.{eqb}
 use Rattle.cache.specs.Sum.{bit, count}
 use Rattle.cache.specs.References.{nothing, Real, All}
-use Rattle.cache.specs.Cache.{Cache, held, emptyRow, hits, withReference, withReferences}
-use Rattle.cache.specs.Firsts.{firstsOver}
+use Rattle.cache.specs.Cache.{Cache, held, Policy, oneLine, referAll}
+use Rattle.cache.specs.Firsts.{ahead}
 use Rattle.cache.specs.Sets.{useful}
 use Rattle.model.specs.Numbers.{Count}
 
@@ -35,22 +35,31 @@ preemptions (Preempt fs ∷ es) = suc (preemptions es)
 -- ---- misses: U is `misses k row (own es)`
 
 -- D: the run's own misses with its preemptions
+abbrev pub disturbedOn : Policy → List ℕ → List Event → ℕ
+disturbedOn k d [] = 0
+disturbedOn k d (Ref m ∷ es) = bit (not (k .found d m)) + disturbedOn k (k .refer d m) es
+disturbedOn k d (Preempt fs ∷ es) = disturbedOn k (referAll k d fs) es
+
 abbrev pub disturbed : Cache → List ℕ → List Event → ℕ
-disturbed k d [] = 0
-disturbed k d (Ref m ∷ es) = bit (not (hits k d m)) + disturbed k (withReference k d m) es
-disturbed k d (Preempt fs ∷ es) = disturbed k (withReferences k d fs) es
+disturbed k = disturbedOn (oneLine k)
 
 -- the own references that hit in the undisturbed run from u and miss in the disturbed run from d
+abbrev pub lostOn : Policy → List ℕ → List ℕ → List Event → ℕ
+lostOn k d u [] = 0
+lostOn k d u (Ref m ∷ es) = bit (k .found u m && not (k .found d m)) + lostOn k (k .refer d m) (k .refer u m) es
+lostOn k d u (Preempt fs ∷ es) = lostOn k (referAll k d fs) u es
+
 abbrev pub lost : Cache → List ℕ → List ℕ → List Event → ℕ
-lost k d u [] = 0
-lost k d u (Ref m ∷ es) = bit (hits k u m && not (hits k d m)) + lost k (withReference k d m) (withReference k u m) es
-lost k d u (Preempt fs ∷ es) = lost k (withReferences k d fs) u es
+lost k = lostOn (oneLine k)
 
 -- those that miss in the undisturbed run and hit in the disturbed one
+abbrev pub gainedOn : Policy → List ℕ → List ℕ → List Event → ℕ
+gainedOn k d u [] = 0
+gainedOn k d u (Ref m ∷ es) = bit (k .found d m && not (k .found u m)) + gainedOn k (k .refer d m) (k .refer u m) es
+gainedOn k d u (Preempt fs ∷ es) = gainedOn k (referAll k d fs) u es
+
 abbrev pub gained : Cache → List ℕ → List ℕ → List Event → ℕ
-gained k d u [] = 0
-gained k d u (Ref m ∷ es) = bit (hits k d m && not (hits k u m)) + gained k (withReference k d m) (withReference k u m) es
-gained k d u (Preempt fs ∷ es) = gained k (withReferences k d fs) u es
+gained k = gainedOn (oneLine k)
 
 -- ---- what a preemption costs
 
@@ -60,10 +69,13 @@ agree x y = eqb x y && not (eqb x nothing)
 
 -- a number for each preemption of a run, summed: v is given the row of the undisturbed run there, the first references to come,
 -- and the row that the preemption makes from the empty one; the undisturbed run begins with the row u
+abbrev pub totalOn : Count → Policy → List ℕ → List Event → ℕ
+totalOn v k u [] = 0
+totalOn v k u (Ref m ∷ es) = totalOn v k (k .refer u m) es
+totalOn v k u (Preempt fs ∷ es) = v u (ahead k (own es) (k .first)) (referAll k (k .first) fs) + totalOn v k u es
+
 abbrev pub total : Count → Cache → List ℕ → List Event → ℕ
-total v k u [] = 0
-total v k u (Ref m ∷ es) = total v k (withReference k u m) es
-total v k u (Preempt fs ∷ es) = v u (firstsOver k (own es) (emptyRow k)) (withReferences k (emptyRow k) fs) + total v k u es
+total v k = totalOn v (oneLine k)
 
 -- the cache blocks where d and u differ and u holds what comes next
 abbrev pub gap : Cache → List ℕ → List ℕ → List ℕ → ℕ

@@ -11,17 +11,18 @@ use lib.Dec.{eqb}
 use lib.ListN.{length, length-append, getD, take, drop}
 use lib.Seq.{take-at, drop-at, getD-append-add}
 use Rattle.cache.specs.References.{All}
-use Rattle.cache.specs.Cache.{Cache, emptyRow, withReference, withReferences}
-use Rattle.cache.specs.Firsts.{firstsOver}
-use Rattle.cache.proofs.Rows.{withReferences-append, firstsOver-append, firstReferences-fold}
+use Rattle.cache.specs.Cache.{Cache, Policy, oneLine, emptyRow, referAll}
+use Rattle.cache.specs.Firsts.{ahead}
+use Rattle.cache.proofs.Rows.{referAll-append, ahead-append}
 use Rattle.model.specs.Lists.{mem, Each}
 use Rattle.model.specs.Tasks.{Block, Task, block, end, PathFrom, stay, step, Complete, references}
-use Rattle.model.specs.States.{Lives}
+use Rattle.model.specs.States.{LivesOn}
 use Rattle.model.specs.Numbers.{Count}
 use Rattle.model.specs.Runs.{Point, pointsFrom, blockPoints, points}
 use Rattle.model.proofs.Paths.{path-first, path-snoc, references-join}
-use Rattle.model.proofs.Entering.{Enters, enters-first}
-use Rattle.model.proofs.Events.{Event, Preempt, own, refs, total, Parts}
+use Rattle.model.proofs.Entering.{EntersOn, any-enters-first}
+use Rattle.model.proofs.Policies.{Lawful, one-lawful}
+use Rattle.model.proofs.Events.{Event, Preempt, own, refs, totalOn, total, Parts}
 use Rattle.model.proofs.Lost.{own-refs}
 use Rattle.model.proofs.Taken.{incoming, taken, At, each-incoming}
 
@@ -105,80 +106,80 @@ module _ {A : Type 0} (position done : A → ℕ) (all : A → List ℕ) where
 
   -- ---- what those that come in cost a run, by any count
 
-  module _ (v : Count) (k : Cache) (t : Task) (path : List ℕ) (number : A → ℕ) where
+  module _ (v : Count) (k : Policy) (law : Lawful k) (t : Task) (path : List ℕ) (number : A → ℕ) where
     -- where d references of the block b are done, whatever row the block is entered with and whatever is live after it, references fs cost at most x
     abbrev CostsAt : ℕ → ℕ → List ℕ → ℕ → Type 0
     CostsAt b d fs x =
-        (e l : List ℕ) → Enters k t b e → Lives k t b l
-        → v (withReferences k e (take d (block t b .references))) (firstsOver k (drop d (block t b .references)) l) (withReferences k (emptyRow k) fs) ≤ x
+        (e l : List ℕ) → EntersOn k law t b e → LivesOn k t b l
+        → v (referAll k e (take d (block t b .references))) (ahead k (drop d (block t b .references)) l) (referAll k (k .first) fs) ≤ x
 
     -- each costs at most its number at its own point
-    abbrev pub Costs : A → Type 0
-    Costs x = CostsAt (getD path (position x) 0) (done x) (all x) (number x)
+    abbrev pub CostsOn : A → Type 0
+    CostsOn x = CostsAt (getD path (position x) 0) (done x) (all x) (number x)
 
     total-comings : (ys : List A) (es : List Event) (u : List ℕ)
-        → Each (λ (y : A). v u (firstsOver k (own es) (emptyRow k)) (withReferences k (emptyRow k) (all y)) ≤ number y) ys
-        → total v k u (comings ys es) ≤ weigh number ys + total v k u es
+        → Each (λ (y : A). v u (ahead k (own es) (k .first)) (referAll k (k .first) (all y)) ≤ number y) ys
+        → totalOn v k u (comings ys es) ≤ weigh number ys + totalOn v k u es
     total-comings [] es u h = omega arith
     total-comings (y ∷ ys) es u h = rw (own-comings ys es) (omega (arith, total-comings ys es u (h .1), h .0))
 
-    module _ (xs : List A) (valid : Each Costs xs) where
+    module _ (xs : List A) (valid : Each CostsOn xs) where
       -- the same at an equal point
       moved : (j i c d b : ℕ) (fs : List ℕ) (x : ℕ) → j ≡ i → c ≡ d → getD path i 0 ≡ b → CostsAt (getD path j 0) c fs x → CostsAt b d fs x
       moved j i c d b fs x p q r h = rw r at (rw (p, q) at h)
 
-      costs : (i d b : ℕ) (e l : List ℕ) → getD path i 0 ≡ b → Enters k t b e → Lives k t b l → (ys : List A) → Each (At position done Costs i d) ys
-          → Each (λ (y : A). v (withReferences k e (take d (block t b .references))) (firstsOver k (drop d (block t b .references)) l) (withReferences k (emptyRow k) (all y)) ≤ number y) ys
+      costs : (i d b : ℕ) (e l : List ℕ) → getD path i 0 ≡ b → EntersOn k law t b e → LivesOn k t b l → (ys : List A) → Each (At position done CostsOn i d) ys
+          → Each (λ (y : A). v (referAll k e (take d (block t b .references))) (ahead k (drop d (block t b .references)) l) (referAll k (k .first) (all y)) ≤ number y) ys
       costs i d b e l at he hl [] h = tt
       costs i d b e l at he hl (y ∷ ys) h =
           (moved (position y) i (done y) d b (all y) (number y) (h .0 .at-position) (h .0 .at-done) at (h .0 .holds) e l he hl, costs i d b e l at he hl ys (h .1))
 
       -- where the references a are done and the references z are to come
-      costs-at : (i b : ℕ) (a z e l : List ℕ) (es : List Event) → a ++ z ≡ block t b .references → getD path i 0 ≡ b → Enters k t b e → Lives k t b l
-          → firstsOver k (own es) (emptyRow k) ≡ firstsOver k z l → (ys : List A) → Each (At position done Costs i (length a)) ys
-          → Each (λ (y : A). v (withReferences k e a) (firstsOver k (own es) (emptyRow k)) (withReferences k (emptyRow k) (all y)) ≤ number y) ys
+      costs-at : (i b : ℕ) (a z e l : List ℕ) (es : List Event) → a ++ z ≡ block t b .references → getD path i 0 ≡ b → EntersOn k law t b e → LivesOn k t b l
+          → ahead k (own es) (k .first) ≡ ahead k z l → (ys : List A) → Each (At position done CostsOn i (length a)) ys
+          → Each (λ (y : A). v (referAll k e a) (ahead k (own es) (k .first)) (referAll k (k .first) (all y)) ≤ number y) ys
       costs-at i b a z e l es s at he hl o ys h =
           rw o (rw (← s, take-at a z (length a) refl, drop-at a z (length a) refl) at (costs i (length a) b e l at he hl ys h))
 
-      total-from : (i b : ℕ) (ms a e l : List ℕ) (rest : List Point) → a ++ ms ≡ block t b .references → getD path i 0 ≡ b → Enters k t b e → Lives k t b l
-          → firstsOver k (own (eventsOf xs rest)) (emptyRow k) ≡ l
-          → total v k (withReferences k e (a ++ ms)) (eventsOf xs rest) ≤ weigh number (taken position done xs rest)
-          → total v k (withReferences k e a) (eventsOf xs (pointsFrom i (length a) ms ++ rest)) ≤ weigh number (taken position done xs (pointsFrom i (length a) ms ++ rest))
+      total-from : (i b : ℕ) (ms a e l : List ℕ) (rest : List Point) → a ++ ms ≡ block t b .references → getD path i 0 ≡ b → EntersOn k law t b e → LivesOn k t b l
+          → ahead k (own (eventsOf xs rest)) (k .first) ≡ l
+          → totalOn v k (referAll k e (a ++ ms)) (eventsOf xs rest) ≤ weigh number (taken position done xs rest)
+          → totalOn v k (referAll k e a) (eventsOf xs (pointsFrom i (length a) ms ++ rest)) ≤ weigh number (taken position done xs (pointsFrom i (length a) ms ++ rest))
       total-from i b [] a e l rest s at he hl o z = rw append-nil at z
       total-from i b (m ∷ ms) a e l rest s at he hl o z =
           let d : length (a ++ (m ∷ [])) ≡ suc (length a) = omega (arith, length-append a (m ∷ [])) in
           let s' : (a ++ (m ∷ [])) ++ ms ≡ block t b .references = append-assoc a (m ∷ []) ms ∙ s in
           let es = eventsOf xs (pointsFrom i (suc (length a)) ms ++ rest) in
           let ys = incoming position done i (suc (length a)) xs in
-          let u : withReferences k e (a ++ (m ∷ [])) ≡ withReference k (withReferences k e a) m = withReferences-append k e a (m ∷ []) in
-          let o' : firstsOver k (own es) (emptyRow k) ≡ firstsOver k ms l = rw (own-from xs i (suc (length a)) ms rest, firstsOver-append k ms (own (eventsOf xs rest)) (emptyRow k), o) in
-          let ih : total v k (withReference k (withReferences k e a) m) es ≤ weigh number (taken position done xs (pointsFrom i (suc (length a)) ms ++ rest))
+          let u : referAll k e (a ++ (m ∷ [])) ≡ k .refer (referAll k e a) m = referAll-append k e a (m ∷ []) in
+          let o' : ahead k (own es) (k .first) ≡ ahead k ms l = rw (own-from xs i (suc (length a)) ms rest, ahead-append k ms (own (eventsOf xs rest)) (k .first), o) in
+          let ih : totalOn v k (k .refer (referAll k e a) m) es ≤ weigh number (taken position done xs (pointsFrom i (suc (length a)) ms ++ rest))
           = rw (u, d) at (total-from i b ms (a ++ (m ∷ [])) e l rest s' at he hl o (rw (append-assoc a (m ∷ []) ms) z)) in
-          let here : total v k (withReference k (withReferences k e a) m) (comings ys es) ≤ weigh number ys + total v k (withReference k (withReferences k e a) m) es
-          = total-comings ys es (withReference k (withReferences k e a) m)
-          (rw u at (costs-at i b (a ++ (m ∷ [])) ms e l es s' at he hl o' ys (rw d (each-incoming position done Costs i (suc (length a)) xs valid)))) in
+          let here : totalOn v k (k .refer (referAll k e a) m) (comings ys es) ≤ weigh number ys + totalOn v k (k .refer (referAll k e a) m) es
+          = total-comings ys es (k .refer (referAll k e a) m)
+          (rw u at (costs-at i b (a ++ (m ∷ [])) ms e l es s' at he hl o' ys (rw d (each-incoming position done CostsOn i (suc (length a)) xs valid)))) in
           omega (arith, ih, here, weigh-append number ys (taken position done xs (pointsFrom i (suc (length a)) ms ++ rest)))
 
-      total-block : (i b : ℕ) (ms e l : List ℕ) (rest : List Point) → ms ≡ block t b .references → getD path i 0 ≡ b → Enters k t b e → Lives k t b l
-          → firstsOver k (own (eventsOf xs rest)) (emptyRow k) ≡ l
-          → total v k (withReferences k e ms) (eventsOf xs rest) ≤ weigh number (taken position done xs rest)
-          → total v k e (eventsOf xs (blockPoints i ms ++ rest)) ≤ weigh number (taken position done xs (blockPoints i ms ++ rest))
+      total-block : (i b : ℕ) (ms e l : List ℕ) (rest : List Point) → ms ≡ block t b .references → getD path i 0 ≡ b → EntersOn k law t b e → LivesOn k t b l
+          → ahead k (own (eventsOf xs rest)) (k .first) ≡ l
+          → totalOn v k (referAll k e ms) (eventsOf xs rest) ≤ weigh number (taken position done xs rest)
+          → totalOn v k e (eventsOf xs (blockPoints i ms ++ rest)) ≤ weigh number (taken position done xs (blockPoints i ms ++ rest))
       total-block i b [] e l rest s at he hl o z =
           omega (
             arith,
             z,
             total-comings (incoming position done i 0 xs) (eventsOf xs rest) e
-                (costs-at i b [] [] e l (eventsOf xs rest) s at he hl o (incoming position done i 0 xs) (each-incoming position done Costs i 0 xs valid)),
+                (costs-at i b [] [] e l (eventsOf xs rest) s at he hl o (incoming position done i 0 xs) (each-incoming position done CostsOn i 0 xs valid)),
             weigh-append number (incoming position done i 0 xs) (taken position done xs rest),
           )
       total-block i b (m ∷ ms) e l rest s at he hl o z = total-from i b (m ∷ ms) [] e l rest s at he hl o z
 
       -- the next block is entered with the row that this one leaves
-      enters-next : (b c : ℕ) (e : List ℕ) → Enters k t b e → mem eqb c (block t b .successors) ≡ true → c < length t → Enters k t c (withReferences k e (block t b .references))
+      enters-next : (b c : ℕ) (e : List ℕ) → EntersOn k law t b e → mem eqb c (block t b .successors) ≡ true → c < length t → EntersOn k law t c (referAll k e (block t b .references))
       enters-next b c e (before, (q, w, x), d) m l = (
         before ++ (b ∷ []),
         (q ++ (c ∷ []), path-snoc t c w m l, ap (λ (z : List ℕ). z ++ (c ∷ [])) x),
-        rw (d, references-join t before (b ∷ []), append-nil, withReferences-append k (emptyRow k) (references t before) (block t b .references)),
+        rw (d, references-join t before (b ∷ []), append-nil, referAll-append k (k .first) (references t before) (block t b .references)),
       )
 
       block-at : (pre q : List ℕ) (i b : ℕ) → i ≡ length pre → pre ++ (b ∷ q) ≡ path → getD path i 0 ≡ b
@@ -187,19 +188,28 @@ module _ {A : Type 0} (position done : A → ℕ) (all : A → List ℕ) where
       to-end : {b e : ℕ} {q : List ℕ} → e ≡ end t → PathFrom t b q e → PathFrom t b q (end t)
       to-end z w = rw z at w
 
-      total-run : {b e : ℕ} {q : List ℕ} (i : ℕ) (pre u : List ℕ) → e ≡ end t → PathFrom t b q e → i ≡ length pre → pre ++ (b ∷ q) ≡ path → Enters k t b u
-          → total v k u (eventsOf xs (points t i (b ∷ q))) ≤ weigh number (taken position done xs (points t i (b ∷ q)))
+      total-run : {b e : ℕ} {q : List ℕ} (i : ℕ) (pre u : List ℕ) → e ≡ end t → PathFrom t b q e → i ≡ length pre → pre ++ (b ∷ q) ≡ path → EntersOn k law t b u
+          → totalOn v k u (eventsOf xs (points t i (b ∷ q))) ≤ weigh number (taken position done xs (points t i (b ∷ q)))
       total-run {b} i pre u z (stay l) n s h =
-          total-block i b (block t b .references) u (emptyRow k) [] refl (block-at pre [] i b n s) h ([], to-end z (stay l), sym (firstReferences-fold k [])) refl (omega arith)
+          total-block i b (block t b .references) u (k .first) [] refl (block-at pre [] i b n s) h ([], to-end z (stay l), sym (law .next-is [])) refl (omega arith)
       total-run {b} i pre u z (step {c = c} {p = q} m w) n s h =
-          total-block i b (block t b .references) u (firstsOver k (references t (c ∷ q)) (emptyRow k)) (points t (suc i) (c ∷ q)) refl (block-at pre (c ∷ q) i b n s) h
-          (c ∷ q, step m (to-end z w), sym (firstReferences-fold k (references t (c ∷ q))))
-          (ap (λ (ms : List ℕ). firstsOver k ms (emptyRow k)) (own-run t xs (suc i) (c ∷ q)))
-          (total-run (suc i) (pre ++ (b ∷ [])) (withReferences k u (block t b .references)) z w (omega (arith, length-append pre (b ∷ []))) (append-assoc pre (b ∷ []) (c ∷ q) ∙ s)
+          total-block i b (block t b .references) u (ahead k (references t (c ∷ q)) (k .first)) (points t (suc i) (c ∷ q)) refl (block-at pre (c ∷ q) i b n s) h
+          (c ∷ q, step m (to-end z w), sym (law .next-is (references t (c ∷ q))))
+          (ap (λ (ms : List ℕ). ahead k ms (k .first)) (own-run t xs (suc i) (c ∷ q)))
+          (total-run (suc i) (pre ++ (b ∷ [])) (referAll k u (block t b .references)) z w (omega (arith, length-append pre (b ∷ []))) (append-assoc pre (b ∷ []) (c ∷ q) ∙ s)
           (enters-next b c u h m (path-first t w)))
+
+  pub any-total-le : (v : Count) (k : Policy) (law : Lawful k) (t : Task) (path : List ℕ) (number : A → ℕ) (xs : List A) → Each (CostsOn v k law t path number) xs → Complete t path
+      → totalOn v k (k .first) (eventsOf xs (points t 0 path)) ≤ weigh number (taken position done xs (points t 0 path))
+  any-total-le v k law t [] number xs h f = absurd f
+  any-total-le v k law t (b ∷ q) number xs h (e, w) =
+      total-run v k law t (b ∷ q) number xs h 0 [] (k .first) refl w refl refl (rw e (any-enters-first k law t (path-first t (rw e at w))))
+
+  -- ---- document 01's cache
+
+  abbrev pub Costs : Count → Cache → Task → List ℕ → (A → ℕ) → A → Type 0
+  Costs v k = CostsOn v (oneLine k) (one-lawful k)
 
   pub total-le : (v : Count) (k : Cache) (t : Task) (path : List ℕ) (number : A → ℕ) (xs : List A) → Each (Costs v k t path number) xs → Complete t path
       → total v k (emptyRow k) (eventsOf xs (points t 0 path)) ≤ weigh number (taken position done xs (points t 0 path))
-  total-le v k t [] number xs h f = absurd f
-  total-le v k t (b ∷ q) number xs h (e, w) =
-      total-run v k t (b ∷ q) number xs h 0 [] (emptyRow k) refl w refl refl (rw e (enters-first k t (path-first t (rw e at w))))
+  total-le v k = any-total-le v (oneLine k) (one-lawful k)

@@ -1,5 +1,6 @@
 pub mod Membership
 pub mod Closure
+pub mod Policies
 pub mod Universe
 pub mod Paths
 pub mod Exact
@@ -18,9 +19,9 @@ pub mod Demand
 pub mod Woven
 pub mod NestedBound
 pub mod Sorted
+pub mod Wider
 pub mod Width
 pub mod Narrower
-pub mod StatesWidth
 pub mod Examples
 pub mod Neighbours
 pub mod SharedNeighbours

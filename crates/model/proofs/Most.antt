@@ -11,17 +11,18 @@ use native.Mathlib.Omega.{arith}
 use lib.Dec.{eqb, ltb}
 use lib.ListN.{length}
 use borrow.Author.Tests.{eqb-true, eq-eqb, ltb-true, ltb-false}
-use Rattle.cache.specs.Cache.{Cache}
+use Rattle.cache.specs.Cache.{Cache, Policy, oneLine}
 use Rattle.cache.specs.Sets.{useful, replaces, usefulReplaced, usefulUsed}
 use Rattle.cache.proofs.Sums.{count-le}
 use Rattle.model.specs.Lists.{mem, best}
 use Rattle.model.specs.Tasks.{Block, Task, block, Unmasked, SomeUnmasked, Done, Allows, AllDone, end}
-use Rattle.model.specs.States.{Reaches, Lives}
-use Rattle.model.specs.Numbers.{Count, Rows, counted, Most, PairNumber, UsedNumber, NumberAtEnds, NumberOverAll}
-use Rattle.model.specs.Computed.{State, sameList, sameState, reachingStates, liveStates, rowsAt, entering, unmasked, dones, allowed, allDone, doneRow, leftRow, most, pairNumber, usedNumber}
+use Rattle.model.specs.States.{ReachesOn, LivesOn, Reaches, Lives}
+use Rattle.model.specs.Numbers.{Count, RowsOn, Rows, counted, MostOn, Most, PairNumber, UsedNumber, NumberAtEnds, NumberOverAll}
+use Rattle.model.specs.Computed.{State, sameList, sameState, reachingStatesOn, liveStatesOn, rowsAt, enteringOn, unmasked, dones, allowed, allDone, doneRowOn, leftRowOn, mostOn, doneRow, leftRow, most, pairNumber, usedNumber}
 use Rattle.model.proofs.Membership.{or-cases, or-left, or-right, eqb-self, one-is, one-has, sameList-self, sameList-true, sameState-self, sameState-true}
-use Rattle.model.proofs.Exact.{reaching-exact, live-exact}
-use Rattle.model.proofs.Entering.{Enters, entering-exact, dones-exact, done-all, at-point, live-point, BeforePoint, point-before, AfterPoint, point-after, point-inside}
+use Rattle.model.proofs.Exact.{any-reaching-exact, any-live-exact}
+use Rattle.model.proofs.Policies.{Lawful, one-lawful}
+use Rattle.model.proofs.Entering.{EntersOn, Enters, any-entering-exact, dones-exact, done-all, any-at-point, any-live-point, BeforePointOn, any-point-before, AfterPointOn, any-point-after, point-inside}
 
 -- ---- the largest value
 
@@ -72,47 +73,47 @@ rowsAt-only b r (x ∷ xs) e = or-swap (go (eqb (x .0) b) refl e (rowsAt-only b 
 
 -- ---- the most over the rows of paths, at the points that the list has
 
-module _ (v : Count) (k : Cache) (i j : Task) (At : ℕ → ℕ → Type 0) (points : ℕ → List ℕ) (agree : (b d : ℕ) → (mem eqb d (points b) ≡ true) ↔ At b d) where
+module _ (v : Count) (k : Policy) (law : Lawful k) (i j : Task) (At : ℕ → ℕ → Type 0) (points : ℕ → List ℕ) (agree : (b d : ℕ) → (mem eqb d (points b) ≡ true) ↔ At b d) where
   abbrev endRows : List (List ℕ)
-  endRows = rowsAt (end j) (reachingStates k j)
+  endRows = rowsAt (end j) (reachingStatesOn k j)
 
   abbrev overEnds : List ℕ → List ℕ → ℕ
   overEnds r l = best (λ (f : List ℕ). v r l f) endRows
 
   abbrev overLive : State → ℕ → ℕ
-  overLive x d = best (λ (l : List ℕ). overEnds (doneRow k i x d) (leftRow k i (x .0) d l)) (rowsAt (x .0) (liveStates k i))
+  overLive x d = best (λ (l : List ℕ). overEnds (doneRowOn k i x d) (leftRowOn k i (x .0) d l)) (rowsAt (x .0) (liveStatesOn k i))
 
   abbrev overPoints : State → ℕ
   overPoints x = best (overLive x) (points (x .0))
 
   abbrev number : ℕ
-  number = most v k i j points
+  number = mostOn v k i j points
 
   -- any row before the block, any live row after it, any number of references done that the list has
-  pub rows-le : (b d : ℕ) (e l f : List ℕ) → At b d → Enters k i b e → Lives k i b l → Reaches k j (end j) f
-      → v (doneRow k i (b, e) d) (leftRow k i b d l) f ≤ number
-  rows-le b d e l f at he hl hf =
-      le-trans (best-le sameList sameList-self sameList-true (λ (f : List ℕ). v (doneRow k i (b, e) d) (leftRow k i b d l) f) f endRows (rowsAt-has (end j) f (reachingStates k j) (reaching-exact k j (end j) f .1 hf)))
-      (le-trans (best-le sameList sameList-self sameList-true (λ (l : List ℕ). overEnds (doneRow k i (b, e) d) (leftRow k i b d l)) l (rowsAt b (liveStates k i)) (rowsAt-has b l (liveStates k i) (live-exact k i b l .1 hl)))
+  pub any-rows-le : (b d : ℕ) (e l f : List ℕ) → At b d → EntersOn k law i b e → LivesOn k i b l → ReachesOn k j (end j) f
+      → v (doneRowOn k i (b, e) d) (leftRowOn k i b d l) f ≤ number
+  any-rows-le b d e l f at he hl hf =
+      le-trans (best-le sameList sameList-self sameList-true (λ (f : List ℕ). v (doneRowOn k i (b, e) d) (leftRowOn k i b d l) f) f endRows (rowsAt-has (end j) f (reachingStatesOn k j) (any-reaching-exact k law j (end j) f .1 hf)))
+      (le-trans (best-le sameList sameList-self sameList-true (λ (l : List ℕ). overEnds (doneRowOn k i (b, e) d) (leftRowOn k i b d l)) l (rowsAt b (liveStatesOn k i)) (rowsAt-has b l (liveStatesOn k i) (any-live-exact k law i b l .1 hl)))
       (le-trans (best-le eqb eqb-self eqb-true (overLive (b, e)) d (points b) (agree b d .1 at))
-      (best-le sameState sameState-self sameState-true overPoints (b, e) (entering k i) (entering-exact k i b e .1 he))))
+      (best-le sameState sameState-self sameState-true overPoints (b, e) (enteringOn k i) (any-entering-exact k law i b e .1 he))))
 
-  most-bound : (x : Rows k i j) → At (x .at) (x .done) → counted v x ≤ number
+  most-bound : (x : RowsOn k i j) → At (x .at) (x .done) → counted v x ≤ number
   most-bound x at =
-      let b = point-before k i (x .at) (x .done) (x .reaching) (x .reaches) in
-      let a = point-after k i (x .at) (x .done) (x .live) (x .lives) in
-      same-rows (x .reaching) (x .live) (x .ending) _ _ (b .same) (a .same) (rows-le (x .at) (x .done) (b .before) (a .after) (x .ending) at (b .enters) (a .lives) (x .ends))
+      let b = any-point-before k law i (x .at) (x .done) (x .reaching) (x .reaches) in
+      let a = any-point-after k law i (x .at) (x .done) (x .live) (x .lives) in
+      same-rows (x .reaching) (x .live) (x .ending) _ _ (b .same) (a .same) (any-rows-le (x .at) (x .done) (b .before) (a .after) (x .ending) at (b .enters) (a .lives) (x .ends))
     where
       same-rows : (r l f r' l' : List ℕ) → r ≡ r' → l ≡ l' → v r' l' f ≤ number → v r l f ≤ number
       same-rows r l f r' l' er el h = rw (er, el) h
 
   abbrev Attained : Type 0
-  Attained = (number ≡ 0) ⊎ ((x : Rows k i j) × At (x .at) (x .done) × (counted v x ≡ number))
+  Attained = (number ≡ 0) ⊎ ((x : RowsOn k i j) × At (x .at) (x .done) × (counted v x ≡ number))
 
-  attained-ends : (x : State) (d : ℕ) (l : List ℕ) → At (x .0) d → Enters k i (x .0) (x .1) → Lives k i (x .0) l
-      → overEnds (doneRow k i x d) (leftRow k i (x .0) d l) ≡ number
-      → (overEnds (doneRow k i x d) (leftRow k i (x .0) d l) ≡ 0)
-      ⊎ ((f : List ℕ) × (mem sameList f endRows ≡ true) × (v (doneRow k i x d) (leftRow k i (x .0) d l) f ≡ overEnds (doneRow k i x d) (leftRow k i (x .0) d l)))
+  attained-ends : (x : State) (d : ℕ) (l : List ℕ) → At (x .0) d → EntersOn k law i (x .0) (x .1) → LivesOn k i (x .0) l
+      → overEnds (doneRowOn k i x d) (leftRowOn k i (x .0) d l) ≡ number
+      → (overEnds (doneRowOn k i x d) (leftRowOn k i (x .0) d l) ≡ 0)
+      ⊎ ((f : List ℕ) × (mem sameList f endRows ≡ true) × (v (doneRowOn k i x d) (leftRowOn k i (x .0) d l) f ≡ overEnds (doneRowOn k i x d) (leftRowOn k i (x .0) d l)))
       → Attained
   attained-ends x d l at he hl e (inl z) = inl (sym e ∙ z)
   attained-ends x d l at he hl e (inr (f, p, q)) =
@@ -120,52 +121,69 @@ module _ (v : Count) (k : Cache) (i j : Task) (At : ℕ → ℕ → Type 0) (poi
         record {
           at = x .0;
           done = d;
-          reaching = doneRow k i x d;
-          live = leftRow k i (x .0) d l;
+          reaching = doneRowOn k i x d;
+          live = leftRowOn k i (x .0) d l;
           ending = f;
-          reaches = at-point k i (x .0) d (x .1) he;
-          lives = live-point k i (x .0) d l hl;
-          ends = reaching-exact k j (end j) f .0 (rowsAt-only (end j) f (reachingStates k j) p);
+          reaches = any-at-point k law i (x .0) d (x .1) he;
+          lives = any-live-point k law i (x .0) d l hl;
+          ends = any-reaching-exact k law j (end j) f .0 (rowsAt-only (end j) f (reachingStatesOn k j) p);
         },
         at,
         q ∙ e,
       )
 
-  attained-live : (x : State) (d : ℕ) → At (x .0) d → Enters k i (x .0) (x .1) → overLive x d ≡ number
+  attained-live : (x : State) (d : ℕ) → At (x .0) d → EntersOn k law i (x .0) (x .1) → overLive x d ≡ number
       → (overLive x d ≡ 0)
-      ⊎ ((l : List ℕ) × (mem sameList l (rowsAt (x .0) (liveStates k i)) ≡ true) × (overEnds (doneRow k i x d) (leftRow k i (x .0) d l) ≡ overLive x d)) → Attained
+      ⊎ ((l : List ℕ) × (mem sameList l (rowsAt (x .0) (liveStatesOn k i)) ≡ true) × (overEnds (doneRowOn k i x d) (leftRowOn k i (x .0) d l) ≡ overLive x d)) → Attained
   attained-live x d at he e (inl z) = inl (sym e ∙ z)
   attained-live x d at he e (inr (l, p, q)) =
-      attained-ends x d l at he (live-exact k i (x .0) l .0 (rowsAt-only (x .0) l (liveStates k i) p)) (q ∙ e)
-      (best-attained sameList sameList-self sameList-true (λ (f : List ℕ). v (doneRow k i x d) (leftRow k i (x .0) d l) f) endRows)
+      attained-ends x d l at he (any-live-exact k law i (x .0) l .0 (rowsAt-only (x .0) l (liveStatesOn k i) p)) (q ∙ e)
+      (best-attained sameList sameList-self sameList-true (λ (f : List ℕ). v (doneRowOn k i x d) (leftRowOn k i (x .0) d l) f) endRows)
 
-  attained-points : (x : State) → Enters k i (x .0) (x .1) → overPoints x ≡ number
+  attained-points : (x : State) → EntersOn k law i (x .0) (x .1) → overPoints x ≡ number
       → (overPoints x ≡ 0) ⊎ ((d : ℕ) × (mem eqb d (points (x .0)) ≡ true) × (overLive x d ≡ overPoints x)) → Attained
   attained-points x he e (inl z) = inl (sym e ∙ z)
   attained-points x he e (inr (d, p, q)) =
       attained-live x d (agree (x .0) d .0 p) he (q ∙ e)
-      (best-attained sameList sameList-self sameList-true (λ (l : List ℕ). overEnds (doneRow k i x d) (leftRow k i (x .0) d l)) (rowsAt (x .0) (liveStates k i)))
+      (best-attained sameList sameList-self sameList-true (λ (l : List ℕ). overEnds (doneRowOn k i x d) (leftRowOn k i (x .0) d l)) (rowsAt (x .0) (liveStatesOn k i)))
 
-  attained-entering : (number ≡ 0) ⊎ ((x : State) × (mem sameState x (entering k i) ≡ true) × (overPoints x ≡ number)) → Attained
+  attained-entering : (number ≡ 0) ⊎ ((x : State) × (mem sameState x (enteringOn k i) ≡ true) × (overPoints x ≡ number)) → Attained
   attained-entering (inl z) = inl z
   attained-entering (inr (x, p, q)) =
-      attained-points x (entering-exact k i (x .0) (x .1) .0 p) q (best-attained eqb eqb-self eqb-true (overLive x) (points (x .0)))
+      attained-points x (any-entering-exact k law i (x .0) (x .1) .0 p) q (best-attained eqb eqb-self eqb-true (overLive x) (points (x .0)))
 
-  pub most-is : Most v k i j At number
-  most-is = record { bound = most-bound; attained = attained-entering (best-attained sameState sameState-self sameState-true overPoints (entering k i)) }
+  pub any-most-is : MostOn v k i j At number
+  any-most-is = record { bound = most-bound; attained = attained-entering (best-attained sameState sameState-self sameState-true overPoints (enteringOn k i)) }
 
-module _ (v : Count) (k : Cache) (i j : Task) (At : ℕ → ℕ → Type 0) where
+module _ (v : Count) (k : Policy) (law : Lawful k) (i j : Task) (At : ℕ → ℕ → Type 0) where
   -- a most over some points bounds one over fewer
-  pub most-le : (Fewer : ℕ → ℕ → Type 0) → ((b d : ℕ) → Fewer b d → At b d) → (x y : ℕ) → Most v k i j Fewer x → Most v k i j At y → x ≤ y
-  most-le Fewer all x y p q = go (p .attained)
+  pub any-most-le : (Fewer : ℕ → ℕ → Type 0) → ((b d : ℕ) → Fewer b d → At b d) → (x y : ℕ) → MostOn v k i j Fewer x → MostOn v k i j At y → x ≤ y
+  any-most-le Fewer all x y p q = go (p .attained)
     where
-      go : (x ≡ 0) ⊎ ((rows : Rows k i j) × Fewer (rows .at) (rows .done) × (counted v rows ≡ x)) → x ≤ y
+      go : (x ≡ 0) ⊎ ((rows : RowsOn k i j) × Fewer (rows .at) (rows .done) × (counted v rows ≡ x)) → x ≤ y
       go (inl z) = omega arith
       go (inr (rows, at, e)) = omega (arith, q .bound rows (all (rows .at) (rows .done) at))
 
   -- there is only one
+  pub any-most-unique : (x y : ℕ) → MostOn v k i j At x → MostOn v k i j At y → x ≡ y
+  any-most-unique x y p q = omega (arith, any-most-le At (λ b d h. h) x y p q, any-most-le At (λ b d h. h) y x q p)
+
+-- ---- document 01's cache
+
+module _ (v : Count) (k : Cache) (i j : Task) (At : ℕ → ℕ → Type 0) (points : ℕ → List ℕ) (agree : (b d : ℕ) → (mem eqb d (points b) ≡ true) ↔ At b d) where
+  pub rows-le : (b d : ℕ) (e l f : List ℕ) → At b d → Enters k i b e → Lives k i b l → Reaches k j (end j) f
+      → v (doneRow k i (b, e) d) (leftRow k i b d l) f ≤ most v k i j points
+  rows-le = any-rows-le v (oneLine k) (one-lawful k) i j At points agree
+
+  pub most-is : Most v k i j At (most v k i j points)
+  most-is = any-most-is v (oneLine k) (one-lawful k) i j At points agree
+
+module _ (v : Count) (k : Cache) (i j : Task) (At : ℕ → ℕ → Type 0) where
+  pub most-le : (Fewer : ℕ → ℕ → Type 0) → ((b d : ℕ) → Fewer b d → At b d) → (x y : ℕ) → Most v k i j Fewer x → Most v k i j At y → x ≤ y
+  most-le = any-most-le v (oneLine k) (one-lawful k) i j At
+
   pub most-unique : (x y : ℕ) → Most v k i j At x → Most v k i j At y → x ≡ y
-  most-unique x y p q = omega (arith, most-le At (λ b d h. h) x y p q, most-le At (λ b d h. h) y x q p)
+  most-unique = any-most-unique v (oneLine k) (one-lawful k) i j At
 
 -- ---- over the points of unmasked blocks
 
@@ -186,6 +204,9 @@ allowed-exact t = free-exact t (λ b d. Done (block t b .references) d) (λ b. d
 
 all-done-exact : (t : Task) (b d : ℕ) → (mem eqb d (allDone t b) ≡ true) ↔ AllDone t b d
 all-done-exact t b d = (one-is d (length (block t b .references)), λ e. rw e (one-has (length (block t b .references))))
+
+pub any-allowed-most : (v : Count) (k : Policy) → Lawful k → (i j : Task) → MostOn v k i j (Allows i) (mostOn v k i j (allowed i))
+any-allowed-most v k law i j = any-most-is v k law i j (Allows i) (allowed i) (allowed-exact i)
 
 pub allowed-most : (v : Count) (k : Cache) (i j : Task) → Most v k i j (Allows i) (most v k i j (allowed i))
 allowed-most v k i j = most-is v k i j (Allows i) (allowed i) (allowed-exact i)

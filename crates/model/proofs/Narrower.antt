@@ -9,7 +9,8 @@ use lib.ListN.{length, take, replicate}
 use Rattle.cache.specs.References.{nothing}
 use Rattle.cache.specs.Cache.{Cache, wide, direct, emptyRow, withReferences, firstReferences}
 use Rattle.cache.proofs.Rows.{length-emptyRow, length-withReferences, length-firstsOver, firstReferences-fold}
-use Rattle.model.proofs.Width.{padded, run-row, first-row}
+use Rattle.model.proofs.Wider.{run-row, next-row}
+use Rattle.model.proofs.Width.{wider}
 
 pub take-replicate : (w d : ℕ) (x : ℕ) → w ≤ d → take w (replicate d x) ≡ replicate w x
 take-replicate zero d x h = refl
@@ -31,11 +32,11 @@ module _ (n w v : ℕ) (pos : 0 < n) (h : n ≤ w) (l : w ≤ v) where
       let ew : n + (w - n) ≡ w = omega arith in
       let ev : n + (v - n) ≡ v = omega arith in
       same (withReferences (direct n) (emptyRow (direct n)) ms) _ _ (length-withReferences (direct n) ms (emptyRow (direct n)) (length-emptyRow (direct n)))
-      (rw ev at (run-row n pos (v - n) ms)) (rw ew at (run-row n pos (w - n) ms))
+      (rw ev at (run-row (wider n pos (v - n)) ms)) (rw ew at (run-row (wider n pos (w - n)) ms))
 
   pub narrower-first : (ms : List ℕ) → take w (firstReferences (wide v n) ms) ≡ firstReferences (wide w n) ms
   narrower-first ms =
       let ew : n + (w - n) ≡ w = omega arith in
       let ev : n + (v - n) ≡ v = omega arith in
       same (firstReferences (direct n) ms) _ _ (ap length (firstReferences-fold (direct n) ms) ∙ length-firstsOver (direct n) ms (emptyRow (direct n)) (length-emptyRow (direct n)))
-      (rw ev at (first-row n pos (v - n) ms)) (rw ew at (first-row n pos (w - n) ms))
+      (rw ev at (next-row (wider n pos (v - n)) ms)) (rw ew at (next-row (wider n pos (w - n)) ms))

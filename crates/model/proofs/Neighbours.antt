@@ -10,7 +10,7 @@ use lib.Dec.{eqb}
 use lib.ListN.{length, getD, drop}
 use Rattle.cache.specs.Sum.{count}
 use Rattle.cache.specs.References.{nothing, Real, All}
-use Rattle.cache.specs.Cache.{Cache, direct, held, firstReferences}
+use Rattle.cache.specs.Cache.{Cache, direct, held, firstReferences, oneLine}
 use Rattle.cache.specs.Sets.{replaces, usefulReplaced, usefulUsed}
 use Rattle.model.specs.Lists.{best}
 use Rattle.model.specs.Tasks.{Block, Task, SomeUnmasked, end, PathFrom, stay, step, Complete, OnCompletePath, references, memoryBlocks, task, Rules}
@@ -143,7 +143,7 @@ not-live-further h = go (h (task tasksE 1) 0 [] (stay {b = 0} (omega arith)))
 abbrev pub mostWithoutStop : Count → Cache → Task → Task → ℕ
 mostWithoutStop v k i j =
     best (λ (x : State). best (λ (d : ℕ). best (λ (l : List ℕ). best (λ (f : List ℕ). v (doneRow k i x d) (leftRow k i (x .0) d l) f) (rowsAt (end j) (reachingStates k j)))
-    (rowsAt (x .0) (close sameState (liveNext k i) (rounds k i) []))) (allowed i (x .0))) (entering k i)
+    (rowsAt (x .0) (close sameState (liveNext (oneLine k) i) (rounds (oneLine k) i) []))) (allowed i (x .0))) (entering k i)
 
 without-stop : mostWithoutStop (usefulReplaced (direct 2)) (direct 2) (task tasksE 0) (task tasksE 1) ≡ 0
 unfolding nothing

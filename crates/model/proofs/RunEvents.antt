@@ -10,11 +10,11 @@ use native.Mathlib.Omega.{arith}
 use lib.ListN.{length, getD, take, drop}
 use borrow.Author.Tests.{eq-eqb}
 use Rattle.cache.specs.Sum.{bit}
-use Rattle.cache.specs.Cache.{Cache, emptyRow, hits, withReference, withReferences, misses}
+use Rattle.cache.specs.Cache.{Cache, Policy, oneLine, emptyRow, referAll, withReferences, missesOn, misses}
 use Rattle.model.specs.Lists.{Each}
 use Rattle.model.specs.Tasks.{Block, Task, block, Done, references, task}
-use Rattle.model.specs.Runs.{Preemption, NeverFall, Point, pointsFrom, blockPoints, points, RowCount, atFirst, ownReferences, preempted, preemptedBy, withPoint, afterPoint, run, countAtEnd}
-use Rattle.model.proofs.Events.{Event, Preempt, refs, disturbed}
+use Rattle.model.specs.Runs.{Preemption, NeverFall, Point, pointsFrom, blockPoints, points, RowCount, atFirstOn, ownReferencesOn, preemptedOn, preemptedByOn, withPoint, afterPointOn, runOn, countAtEndOn, ownReferences, countAtEnd}
+use Rattle.model.proofs.Events.{Event, Preempt, refs, disturbedOn, disturbed}
 use Rattle.model.proofs.Taken.{Before, before-differs, after-differs, taken, InOrder, taken-all}
 use Rattle.model.proofs.Incoming.{refs-join, comings, eventsOf, run-quiet}
 
@@ -40,43 +40,55 @@ runEvents ts xs ps = eventsOf positionOf doneOf (allOf ts) xs ps
 
 -- ---- the count of a run is the count over its events
 
-module _ (k : Cache) (ts : List Task) where
+module _ (k : Policy) (ts : List Task) where
   own-count : (ms : List ℕ) (s : RowCount) (es : List Event)
-      → ownReferences k s ms .count + disturbed k (ownReferences k s ms .row) es ≡ s .count + disturbed k (s .row) (refs ms es)
+      → ownReferencesOn k s ms .count + disturbedOn k (ownReferencesOn k s ms .row) es ≡ s .count + disturbedOn k (s .row) (refs ms es)
   own-count [] s es = refl
   own-count (m ∷ ms) s es =
-      omega (arith, own-count ms (record { row = withReference k (s .row) m; count = s .count + bit (not (hits k (s .row) m)) }) es)
+      omega (arith, own-count ms (record { row = k .refer (s .row) m; count = s .count + bit (not (k .found (s .row) m)) }) es)
 
   preempted-count : (xs : List Preemption) (s : RowCount) (es : List Event)
-      → preemptedBy k ts s xs .count + disturbed k (preemptedBy k ts s xs .row) es ≡ s .count + disturbed k (s .row) (preempts ts xs es)
+      → preemptedByOn k ts s xs .count + disturbedOn k (preemptedByOn k ts s xs .row) es ≡ s .count + disturbedOn k (s .row) (preempts ts xs es)
   preempted-count [] s es = refl
-  preempted-count (x ∷ xs) s es = preempted-count xs (preempted k ts s x) es
+  preempted-count (x ∷ xs) s es = preempted-count xs (preemptedOn k ts s x) es
 
-  run-count : (xs : List Preemption) (ps : List Point) (s : RowCount) → run k ts xs s ps .count ≡ s .count + disturbed k (s .row) (runEvents ts xs ps)
+  run-count : (xs : List Preemption) (ps : List Point) (s : RowCount) → runOn k ts xs s ps .count ≡ s .count + disturbedOn k (s .row) (runEvents ts xs ps)
   run-count xs [] s = omega arith
   run-count xs (p ∷ ps) s =
-      run-count xs ps (afterPoint k ts xs s p)
-      ∙ preempted-count (withPoint (p .position) (p .done) xs) (ownReferences k s (p .reference)) (runEvents ts xs ps)
+      run-count xs ps (afterPointOn k ts xs s p)
+      ∙ preempted-count (withPoint (p .position) (p .done) xs) (ownReferencesOn k s (p .reference)) (runEvents ts xs ps)
       ∙ own-count (p .reference) s (preempts ts (withPoint (p .position) (p .done) xs) (runEvents ts xs ps))
 
   -- D, and U with the empty list
-  pub count-events : (t : Task) (path : List ℕ) (xs : List Preemption) → countAtEnd k ts t path xs ≡ disturbed k (emptyRow k) (runEvents ts xs (points t 0 path))
-  count-events t path xs = omega (arith, run-count xs (points t 0 path) (atFirst k))
+  pub any-count-events : (t : Task) (path : List ℕ) (xs : List Preemption) → countAtEndOn k ts t path xs ≡ disturbedOn k (k .first) (runEvents ts xs (points t 0 path))
+  any-count-events t path xs = omega (arith, run-count xs (points t 0 path) (atFirstOn k))
 
-  refs-misses : (ms d : List ℕ) (es : List Event) → disturbed k d (refs ms es) ≡ misses k d ms + disturbed k (withReferences k d ms) es
+  pub refs-misses : (ms d : List ℕ) (es : List Event) → disturbedOn k d (refs ms es) ≡ missesOn k d ms + disturbedOn k (referAll k d ms) es
   refs-misses [] d es = omega arith
-  refs-misses (m ∷ ms) d es = omega (arith, refs-misses ms (withReference k d m) es)
+  refs-misses (m ∷ ms) d es = omega (arith, refs-misses ms (k .refer d m) es)
 
 -- what own references leave in the row
-pub own-row : (k : Cache) (s : RowCount) (ms : List ℕ) → ownReferences k s ms .row ≡ withReferences k (s .row) ms
-own-row k s [] = refl
-own-row k s (m ∷ ms) = own-row k (record { row = withReference k (s .row) m; count = s .count + bit (not (hits k (s .row) m)) }) ms
+pub any-own-row : (k : Policy) (s : RowCount) (ms : List ℕ) → ownReferencesOn k s ms .row ≡ referAll k (s .row) ms
+any-own-row k s [] = refl
+any-own-row k s (m ∷ ms) = any-own-row k (record { row = k .refer (s .row) m; count = s .count + bit (not (k .found (s .row) m)) }) ms
 
 -- U is the misses of the path's references
+pub any-undisturbed : (k : Policy) (ts : List Task) (t : Task) (path : List ℕ) → countAtEndOn k ts t path [] ≡ missesOn k (k .first) (references t path)
+any-undisturbed k ts t path =
+    any-count-events k ts t path [] ∙ ap (disturbedOn k (k .first)) (run-quiet positionOf doneOf (allOf ts) t 0 path)
+    ∙ omega (arith, refs-misses k ts (references t path) (k .first) [])
+
+-- ---- document 01's cache
+
+pub count-events : (k : Cache) (ts : List Task) (t : Task) (path : List ℕ) (xs : List Preemption)
+    → countAtEnd k ts t path xs ≡ disturbed k (emptyRow k) (runEvents ts xs (points t 0 path))
+count-events k = any-count-events (oneLine k)
+
+pub own-row : (k : Cache) (s : RowCount) (ms : List ℕ) → ownReferences k s ms .row ≡ withReferences k (s .row) ms
+own-row k = any-own-row (oneLine k)
+
 pub undisturbed : (k : Cache) (ts : List Task) (t : Task) (path : List ℕ) → countAtEnd k ts t path [] ≡ misses k (emptyRow k) (references t path)
-undisturbed k ts t path =
-    count-events k ts t path [] ∙ ap (disturbed k (emptyRow k)) (run-quiet positionOf doneOf (allOf ts) t 0 path)
-    ∙ omega (arith, refs-misses k ts (references t path) (emptyRow k) [])
+undisturbed k = any-undisturbed (oneLine k)
 
 -- ---- a run with one preemption
 

@@ -8,14 +8,15 @@ use Prim.Native.Nat.{ℕ, _<_}
 use native.Mathlib.Omega.{arith}
 use lib.Dec.{eqb, ltb}
 use borrow.Author.Tests.{eqb-true, eq-eqb, ltb-true, ltb-false, lt-ltb, le-ltb}
-use Rattle.cache.specs.Cache.{Cache}
+use Rattle.cache.specs.Cache.{Cache, Policy, oneLine}
 use Rattle.model.specs.Lists.{mem}
 use Rattle.model.specs.Tasks.{Task}
-use Rattle.model.specs.States.{Reaches, Lives}
+use Rattle.model.specs.States.{ReachesOn, LivesOn, Reaches, Lives}
 use Rattle.model.specs.Order.{before, BeforeFirst, Rising}
-use Rattle.model.specs.Computed.{sameList, rowsAt, insertRow, sorted, reachingStates, liveStates, reaching, living}
+use Rattle.model.specs.Computed.{sameList, rowsAt, insertRow, sorted, reachingStatesOn, liveStatesOn, reachingOn, livingOn, reaching, living}
 use Rattle.model.proofs.Membership.{or-cases, or-left, or-right, both-left, both-right, sameList-self, sameList-true}
-use Rattle.model.proofs.Exact.{reaching-exact, live-exact}
+use Rattle.model.proofs.Exact.{any-reaching-exact, any-live-exact}
+use Rattle.model.proofs.Policies.{Lawful, one-lawful}
 use Rattle.model.proofs.Most.{rowsAt-has, rowsAt-only}
 
 -- ---- dictionary order
@@ -170,23 +171,38 @@ rising-unique (x ∷ xs) (y ∷ ys) h g w =
 
 -- ---- the reaching and the live states of a block
 
-module _ (k : Cache) (t : Task) (b : ℕ) where
+module _ (k : Policy) (law : Lawful k) (t : Task) (b : ℕ) where
   -- a row is listed exactly when some path makes it
-  pub reaching-rows : (row : List ℕ) → (mem sameList row (reaching k t b) ≡ true) ↔ Reaches k t b row
-  reaching-rows row = (
-    λ e. reaching-exact k t b row .0 (rowsAt-only b row (reachingStates k t) (sorted-only (rowsAt b (reachingStates k t)) row e)),
-    λ h. sorted-has (rowsAt b (reachingStates k t)) row (rowsAt-has b row (reachingStates k t) (reaching-exact k t b row .1 h)),
+  pub any-reaching-rows : (row : List ℕ) → (mem sameList row (reachingOn k t b) ≡ true) ↔ ReachesOn k t b row
+  any-reaching-rows row = (
+    λ e. any-reaching-exact k law t b row .0 (rowsAt-only b row (reachingStatesOn k t) (sorted-only (rowsAt b (reachingStatesOn k t)) row e)),
+    λ h. sorted-has (rowsAt b (reachingStatesOn k t)) row (rowsAt-has b row (reachingStatesOn k t) (any-reaching-exact k law t b row .1 h)),
   )
 
-  pub living-rows : (row : List ℕ) → (mem sameList row (living k t b) ≡ true) ↔ Lives k t b row
-  living-rows row = (
-    λ e. live-exact k t b row .0 (rowsAt-only b row (liveStates k t) (sorted-only (rowsAt b (liveStates k t)) row e)),
-    λ h. sorted-has (rowsAt b (liveStates k t)) row (rowsAt-has b row (liveStates k t) (live-exact k t b row .1 h)),
+  pub any-living-rows : (row : List ℕ) → (mem sameList row (livingOn k t b) ≡ true) ↔ LivesOn k t b row
+  any-living-rows row = (
+    λ e. any-live-exact k law t b row .0 (rowsAt-only b row (liveStatesOn k t) (sorted-only (rowsAt b (liveStatesOn k t)) row e)),
+    λ h. sorted-has (rowsAt b (liveStatesOn k t)) row (rowsAt-has b row (liveStatesOn k t) (any-live-exact k law t b row .1 h)),
   )
 
   -- in dictionary order, free of repetition
+  pub any-reaching-rising : Rising (reachingOn k t b)
+  any-reaching-rising = sorted-rising (rowsAt b (reachingStatesOn k t))
+
+  pub any-living-rising : Rising (livingOn k t b)
+  any-living-rising = sorted-rising (rowsAt b (liveStatesOn k t))
+
+-- ---- document 01's cache
+
+module _ (k : Cache) (t : Task) (b : ℕ) where
+  pub reaching-rows : (row : List ℕ) → (mem sameList row (reaching k t b) ≡ true) ↔ Reaches k t b row
+  reaching-rows = any-reaching-rows (oneLine k) (one-lawful k) t b
+
+  pub living-rows : (row : List ℕ) → (mem sameList row (living k t b) ≡ true) ↔ Lives k t b row
+  living-rows = any-living-rows (oneLine k) (one-lawful k) t b
+
   pub reaching-rising : Rising (reaching k t b)
-  reaching-rising = sorted-rising (rowsAt b (reachingStates k t))
+  reaching-rising = any-reaching-rising (oneLine k) (one-lawful k) t b
 
   pub living-rising : Rising (living k t b)
-  living-rising = sorted-rising (rowsAt b (liveStates k t))
+  living-rising = any-living-rising (oneLine k) (one-lawful k) t b

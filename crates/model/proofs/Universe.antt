@@ -1,22 +1,23 @@
 -- The states of a task are finitely many: a block of the task, and a row over its memory blocks and nothing.
 -- The idea: list all rows over an alphabet, and show that references of the task keep a row inside.
-use mathlib.Core.Path.{_≡_, refl, sym, ap, _∙_}
-use mathlib.Core.Logic.{_⊎_, inl, inr}
+use mathlib.Core.Path.{_≡_, refl, sym, ap}
+use mathlib.Core.Logic.{inl, inr}
 use mathlib.Core.Bool.{Bool, true, false, false≢true}
 use mathlib.Core.List.{List, [], _∷_}
 use Prim.Native.Nat.{ℕ, zero, suc, _^_, _<_}
 use native.Mathlib.Nat.{not-suc-le-zero, pow-zero, pow-succ', suc-inj}
 use native.Mathlib.Omega.{arith}
 use lib.Dec.{eqb}
-use lib.ListN.{length, replicate, length-set, length-replicate}
+use lib.ListN.{length}
 use borrow.Author.Tests.{eqb-true, eqb-false}
 use Rattle.cache.specs.References.{nothing}
-use Rattle.cache.specs.Cache.{Cache, withReference, withReferences, emptyRow}
-use Rattle.cache.specs.Firsts.{firstsOver}
+use Rattle.cache.specs.Cache.{Policy, referAll}
+use Rattle.cache.specs.Firsts.{ahead}
 use Rattle.model.specs.Lists.{mem}
 use Rattle.model.specs.Tasks.{Block, Task, block, memoryBlocks}
 use Rattle.model.specs.Computed.{State, sameList, sameState, rounds}
-use Rattle.model.proofs.Membership.{or-cases, or-left, or-right, eqb-self, sameList-self, sameList-true, sameState-self, sameState-true, mem-append-left, mem-append-right, spread, length-spread, mem-spread, set-in}
+use Rattle.model.proofs.Policies.{Lawful}
+use Rattle.model.proofs.Membership.{or-left, or-right, eqb-self, sameList-self, sameList-true, sameState-self, sameState-true, mem-append-left, mem-append-right, spread, length-spread, mem-spread}
 
 pub upto : ℕ → List ℕ
 upto zero = []
@@ -72,46 +73,43 @@ pub record Fits (n : ℕ) (al r : List ℕ) : Type 0 where
   pub size : length r ≡ n
   pub over : (x : ℕ) → mem eqb x r ≡ true → mem eqb x al ≡ true
 
-withReference-fits : (k : Cache) (al r : List ℕ) (m : ℕ) → mem eqb m al ≡ true → Fits (k .width) al r → Fits (k .width) al (withReference k r m)
-withReference-fits k al r m h g = record {
-  size = length-set r (k .place m) m ∙ g .size;
-  over = λ x e. elim (set-in x m r (k .place m) e) [ inl p ↦ rw (eqb-true x m p) h | inr p ↦ g .over x p ];
+refer-fits : (k : Policy) → Lawful k → (al r : List ℕ) (m : ℕ) → mem eqb nothing al ≡ true → mem eqb m al ≡ true → Fits (k .size) al r → Fits (k .size) al (k .refer r m)
+refer-fits k law al r m n h g = record {
+  size = law .refer-size r m (g .size);
+  over = λ x e. elim (law .refer-holds r m x e) [ inl p ↦ rw p h | inr (inl p) ↦ g .over x p | inr (inr p) ↦ rw p n ];
 }
 
-withReferences-fits : (k : Cache) (al ms r : List ℕ) → ((x : ℕ) → mem eqb x ms ≡ true → mem eqb x al ≡ true) → Fits (k .width) al r → Fits (k .width) al (withReferences k r ms)
-withReferences-fits k al [] r h g = g
-withReferences-fits k al (m ∷ ms) r h g =
-    withReferences-fits k al ms (withReference k r m) (λ x e. h x (or-right (eqb x m) (mem eqb x ms) e)) (withReference-fits k al r m (h m (or-left (eqb m m) (mem eqb m ms) (eqb-self m))) g)
+referAll-fits : (k : Policy) → Lawful k → (al ms r : List ℕ) → mem eqb nothing al ≡ true → ((x : ℕ) → mem eqb x ms ≡ true → mem eqb x al ≡ true)
+    → Fits (k .size) al r → Fits (k .size) al (referAll k r ms)
+referAll-fits k law al [] r n h g = g
+referAll-fits k law al (m ∷ ms) r n h g =
+    referAll-fits k law al ms (k .refer r m) n (λ x e. h x (or-right (eqb x m) (mem eqb x ms) e)) (refer-fits k law al r m n (h m (or-left (eqb m m) (mem eqb m ms) (eqb-self m))) g)
 
-firstsOver-fits : (k : Cache) (al ms r : List ℕ) → ((x : ℕ) → mem eqb x ms ≡ true → mem eqb x al ≡ true) → Fits (k .width) al r → Fits (k .width) al (firstsOver k ms r)
-firstsOver-fits k al [] r h g = g
-firstsOver-fits k al (m ∷ ms) r h g =
-    withReference-fits k al (firstsOver k ms r) m (h m (or-left (eqb m m) (mem eqb m ms) (eqb-self m))) (firstsOver-fits k al ms r (λ x e. h x (or-right (eqb x m) (mem eqb x ms) e)) g)
+ahead-fits : (k : Policy) → Lawful k → (al ms r : List ℕ) → mem eqb nothing al ≡ true → ((x : ℕ) → mem eqb x ms ≡ true → mem eqb x al ≡ true)
+    → Fits (k .size) al r → Fits (k .size) al (ahead k ms r)
+ahead-fits k law al [] r n h g = g
+ahead-fits k law al (m ∷ ms) r n h g =
+    refer-fits k law al (ahead k ms r) m n (h m (or-left (eqb m m) (mem eqb m ms) (eqb-self m))) (ahead-fits k law al ms r n (λ x e. h x (or-right (eqb x m) (mem eqb x ms) e)) g)
 
-replicate-in : (n a x : ℕ) (al : List ℕ) → mem eqb x (replicate n a) ≡ true → mem eqb x (a ∷ al) ≡ true
-replicate-in zero a x al e = absurd (false≢true e)
-replicate-in (suc n) a x al e = go (or-cases (eqb x a) (mem eqb x (replicate n a)) e) (λ q. replicate-in n a x al q)
-  where
-    go : (eqb x a ≡ true) ⊎ (mem eqb x (replicate n a) ≡ true) → (mem eqb x (replicate n a) ≡ true → mem eqb x (a ∷ al) ≡ true) → mem eqb x (a ∷ al) ≡ true
-    go (inl q) ih = or-left (eqb x a) (mem eqb x al) q
-    go (inr q) ih = ih q
-
-emptyRow-fits : (k : Cache) (t : Task) → Fits (k .width) (alphabet t) (emptyRow k)
+nothing-over : (t : Task) → mem eqb nothing (alphabet t) ≡ true
 unfolding alphabet
-emptyRow-fits k t = record { size = length-replicate (k .width) nothing; over = λ x e. replicate-in (k .width) nothing x (memoryBlocks t) e }
+nothing-over t = or-left (eqb nothing nothing) (mem eqb nothing (memoryBlocks t)) (eqb-self nothing)
+
+first-fits : (k : Policy) → Lawful k → (t : Task) → Fits (k .size) (alphabet t) (k .first)
+first-fits k law t = record { size = law .first-size; over = λ x e. rw (law .first-holds x e) (nothing-over t) }
 
 references-over : (t : Task) (b : ℕ) (x : ℕ) → mem eqb x (block t b .references) ≡ true → mem eqb x (alphabet t) ≡ true
 unfolding alphabet
 references-over t b x e = or-right (eqb x nothing) (mem eqb x (memoryBlocks t)) (references-in t b x e)
 
-module _ (k : Cache) (t : Task) where
+module _ (k : Policy) (law : Lawful k) (t : Task) where
   -- a state of the task: one of its blocks, and a row over its memory blocks
   pub record InTask (x : State) : Type 0 where
     pub below : x .0 < length t
-    pub fits : Fits (k .width) (alphabet t) (x .1)
+    pub fits : Fits (k .size) (alphabet t) (x .1)
 
   pub universe : List State
-  universe = spread (λ (b : ℕ) (r : List ℕ). (b, r)) (upto (length t)) (rows (alphabet t) (k .width))
+  universe = spread (λ (b : ℕ) (r : List ℕ). (b, r)) (upto (length t)) (rows (alphabet t) (k .size))
 
   pub universe-rounds : length universe ≡ rounds k t
   unfolding universe alphabet
@@ -120,14 +118,14 @@ module _ (k : Cache) (t : Task) where
   pub in-universe : (x : State) → InTask x → mem sameState x universe ≡ true
   unfolding universe In
   in-universe x h = mem-spread eqb eqb-self eqb-true sameList sameList-self sameList-true sameState sameState-self sameState-true (λ (b : ℕ) (r : List ℕ). (b, r))
-      (x .0) (upto (length t)) (x .1) (rows (alphabet t) (k .width)) (mem-upto (length t) (x .0) (h .below)) (mem-rows (alphabet t) (k .width) (x .1) (h .fits .size) (h .fits .over))
+      (x .0) (upto (length t)) (x .1) (rows (alphabet t) (k .size)) (mem-upto (length t) (x .0) (h .below)) (mem-rows (alphabet t) (k .size) (x .1) (h .fits .size) (h .fits .over))
 
   -- the empty row, and the rows that a block's references make of a row, are rows of the task
-  pub empty-inTask : (b : ℕ) → b < length t → InTask (b, emptyRow k)
-  empty-inTask b h = record { below = h; fits = emptyRow-fits k t }
+  pub empty-inTask : (b : ℕ) → b < length t → InTask (b, k .first)
+  empty-inTask b h = record { below = h; fits = first-fits k law t }
 
-  pub references-inTask : (x : State) (b c : ℕ) → c < length t → InTask x → InTask (c, withReferences k (x .1) (block t b .references))
-  references-inTask x b c h g = record { below = h; fits = withReferences-fits k (alphabet t) (block t b .references) (x .1) (references-over t b) (g .fits) }
+  pub references-inTask : (x : State) (b c : ℕ) → c < length t → InTask x → InTask (c, referAll k (x .1) (block t b .references))
+  references-inTask x b c h g = record { below = h; fits = referAll-fits k law (alphabet t) (block t b .references) (x .1) (nothing-over t) (references-over t b) (g .fits) }
 
-  pub firsts-inTask : (x : State) (b c : ℕ) → c < length t → InTask x → InTask (c, firstsOver k (block t b .references) (x .1))
-  firsts-inTask x b c h g = record { below = h; fits = firstsOver-fits k (alphabet t) (block t b .references) (x .1) (references-over t b) (g .fits) }
+  pub firsts-inTask : (x : State) (b c : ℕ) → c < length t → InTask x → InTask (c, ahead k (block t b .references) (x .1))
+  firsts-inTask x b c h g = record { below = h; fits = ahead-fits k law (alphabet t) (block t b .references) (x .1) (nothing-over t) (references-over t b) (g .fits) }

@@ -1,12 +1,13 @@
 -- The reaching and live states and the pair number as functions that compute.
 -- proofs/Exact and Sorted show that the states are those of States, proofs/Most that the number is that of Numbers.
+-- A name with `On` is over a cache of any kind, a `Policy`; the same name without it is that at document 01's cache.
 use mathlib.Core.Bool.{Bool, true, false, _&&_, cond}
 use mathlib.Core.List.{List, [], _∷_, _++_, map}
 use Prim.Native.Nat.{ℕ, zero, suc, _*_, _^_}
 use lib.Dec.{eqb, ltb}
 use lib.ListN.{length, take, drop}
-use Rattle.cache.specs.Cache.{Cache, Row, emptyRow, withReferences}
-use Rattle.cache.specs.Firsts.{firstsOver}
+use Rattle.cache.specs.Cache.{Cache, Row, Policy, oneLine, referAll}
+use Rattle.cache.specs.Firsts.{ahead}
 use Rattle.cache.specs.Sets.{usefulReplaced, usefulUsed}
 use Rattle.model.specs.Lists.{mem, best}
 use Rattle.model.specs.Tasks.{Block, Task, block, end, memoryBlocks}
@@ -58,32 +59,38 @@ inside t [] = []
 inside t (b ∷ bs) = cond (ltb b (length t)) (b ∷ inside t bs) (inside t bs)
 
 -- reaching states, from the entry onwards
-abbrev pub reachNext : Cache → Task → State → List State
-reachNext k t x = map (λ (s : ℕ). (s, withReferences k (x .1) (block t s .references))) (inside t (block t (x .0) .successors))
+abbrev pub reachNext : Policy → Task → State → List State
+reachNext q t x = map (λ (s : ℕ). (s, referAll q (x .1) (block t s .references))) (inside t (block t (x .0) .successors))
 
-abbrev pub reachStart : Cache → Task → List State
-reachStart k t = map (λ (s : ℕ). (s, withReferences k (emptyRow k) (block t s .references))) (inside t (0 ∷ []))
+abbrev pub reachStart : Policy → Task → List State
+reachStart q t = map (λ (s : ℕ). (s, referAll q (q .first) (block t s .references))) (inside t (0 ∷ []))
 
 -- live states, from the end backwards
 abbrev pub predecessorsFrom : ℕ → Task → ℕ → List ℕ
 predecessorsFrom i [] b = []
 predecessorsFrom i (x ∷ xs) b = cond (mem eqb b (x .successors)) (i ∷ predecessorsFrom (suc i) xs b) (predecessorsFrom (suc i) xs b)
 
-abbrev pub liveNext : Cache → Task → State → List State
-liveNext k t x = map (λ (p : ℕ). (p, firstsOver k (block t (x .0) .references) (x .1))) (predecessorsFrom 0 t (x .0))
+abbrev pub liveNext : Policy → Task → State → List State
+liveNext q t x = map (λ (p : ℕ). (p, ahead q (block t (x .0) .references) (x .1))) (predecessorsFrom 0 t (x .0))
 
-abbrev pub liveStart : Cache → Task → List State
-liveStart k t = map (λ (s : ℕ). (s, emptyRow k)) (inside t (end t ∷ []))
+abbrev pub liveStart : Policy → Task → List State
+liveStart q t = map (λ (s : ℕ). (s, q .first)) (inside t (end t ∷ []))
 
 -- as many rounds as there are states: blocks times rows over the task's memory blocks and nothing
-abbrev pub rounds : Cache → Task → ℕ
-rounds k t = length t * suc (length (memoryBlocks t)) ^ k .width
+abbrev pub rounds : Policy → Task → ℕ
+rounds q t = length t * suc (length (memoryBlocks t)) ^ q .size
+
+abbrev pub reachingStatesOn : Policy → Task → List State
+reachingStatesOn q t = close sameState (reachNext q t) (rounds q t) (reachStart q t)
+
+abbrev pub liveStatesOn : Policy → Task → List State
+liveStatesOn q t = close sameState (liveNext q t) (rounds q t) (liveStart q t)
 
 abbrev pub reachingStates : Cache → Task → List State
-reachingStates k t = close sameState (reachNext k t) (rounds k t) (reachStart k t)
+reachingStates k = reachingStatesOn (oneLine k)
 
 abbrev pub liveStates : Cache → Task → List State
-liveStates k t = close sameState (liveNext k t) (rounds k t) (liveStart k t)
+liveStates k = liveStatesOn (oneLine k)
 
 -- ---- the rows of one block, in dictionary order
 
@@ -101,20 +108,29 @@ sorted [] = []
 sorted (x ∷ xs) = insertRow x (sorted xs)
 
 -- the reaching states and the live states of the block b
+abbrev pub reachingOn : Policy → Task → ℕ → List Row
+reachingOn q t b = sorted (rowsAt b (reachingStatesOn q t))
+
+abbrev pub livingOn : Policy → Task → ℕ → List Row
+livingOn q t b = sorted (rowsAt b (liveStatesOn q t))
+
 abbrev pub reaching : Cache → Task → ℕ → List Row
-reaching k t b = sorted (rowsAt b (reachingStates k t))
+reaching k = reachingOn (oneLine k)
 
 abbrev pub living : Cache → Task → ℕ → List Row
-living k t b = sorted (rowsAt b (liveStates k t))
+living k = livingOn (oneLine k)
 
 -- ---- the pair number
 
 -- the blocks with the rows before them, where none of their references is done: the reaching states of the predecessors, and the empty row too
 -- for block 0
+abbrev pub enteringOn : Policy → Task → List State
+enteringOn q t =
+    map (λ (s : ℕ). (s, q .first)) (inside t (0 ∷ []))
+    ++ nexts (λ (x : State). map (λ (s : ℕ). (s, x .1)) (inside t (block t (x .0) .successors))) (reachingStatesOn q t)
+
 abbrev pub entering : Cache → Task → List State
-entering k t =
-    map (λ (s : ℕ). (s, emptyRow k)) (inside t (0 ∷ []))
-    ++ nexts (λ (x : State). map (λ (s : ℕ). (s, x .1)) (inside t (block t (x .0) .successors))) (reachingStates k t)
+entering k = enteringOn (oneLine k)
 
 -- `left` numbers, from `from` on
 abbrev pub upFrom : ℕ → ℕ → List ℕ
@@ -138,18 +154,27 @@ abbrev pub allDone : Task → ℕ → List ℕ
 allDone t b = length (block t b .references) ∷ []
 
 -- the rows at the point of the block of a state where d references are done: from the row before the block, and from a live row of it
+abbrev pub doneRowOn : Policy → Task → State → ℕ → Row
+doneRowOn q t x d = referAll q (x .1) (take d (block t (x .0) .references))
+
+abbrev pub leftRowOn : Policy → Task → ℕ → ℕ → Row → Row
+leftRowOn q t b d l = ahead q (drop d (block t b .references)) l
+
 abbrev pub doneRow : Cache → Task → State → ℕ → Row
-doneRow k t x d = withReferences k (x .1) (take d (block t (x .0) .references))
+doneRow k = doneRowOn (oneLine k)
 
 abbrev pub leftRow : Cache → Task → ℕ → ℕ → Row → Row
-leftRow k t b d l = firstsOver k (drop d (block t b .references)) l
+leftRow k = leftRowOn (oneLine k)
 
 -- the most that v counts over a reaching row and a live row of one point of i, and a row that j ends with; `points` tells for each block how many
 -- references are done at the points that count
+abbrev pub mostOn : Count → Policy → Task → Task → (ℕ → List ℕ) → ℕ
+mostOn v q i j points =
+    best (λ (x : State). best (λ (d : ℕ). best (λ (l : Row). best (λ (f : Row). v (doneRowOn q i x d) (leftRowOn q i (x .0) d l) f) (rowsAt (end j) (reachingStatesOn q j)))
+    (rowsAt (x .0) (liveStatesOn q i))) (points (x .0))) (enteringOn q i)
+
 abbrev pub most : Count → Cache → Task → Task → (ℕ → List ℕ) → ℕ
-most v k i j points =
-    best (λ (x : State). best (λ (d : ℕ). best (λ (l : Row). best (λ (f : Row). v (doneRow k i x d) (leftRow k i (x .0) d l) f) (rowsAt (end j) (reachingStates k j)))
-    (rowsAt (x .0) (liveStates k i))) (points (x .0))) (entering k i)
+most v k = mostOn v (oneLine k)
 
 -- the pair number of task i preempted by task j, in a cache
 abbrev pub pairNumber : Cache → Task → Task → ℕ

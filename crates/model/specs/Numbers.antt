@@ -1,35 +1,42 @@
 -- Document 01, "Paths and cache", and document 02, Points 1, 5 and 6: the pair number, against paths. Definitions only.
+-- A name with `On` is over a cache of any kind, a `Policy`; the same name without it is that at document 01's cache.
 use mathlib.Core.Path.{_≡_}
 use mathlib.Core.Logic.{_⊎_}
 use Prim.Native.Nat.{ℕ, _≤_}
-use Rattle.cache.specs.Cache.{Cache, Row}
+use Rattle.cache.specs.Cache.{Cache, Row, Policy, oneLine}
 use Rattle.cache.specs.Sets.{usefulReplaced, usefulUsed}
 use Rattle.model.specs.Tasks.{Task, Unmasked, Allows, AllDone, end}
-use Rattle.model.specs.States.{Reaches, ReachesPoint, LivesPoint}
+use Rattle.model.specs.States.{ReachesOn, ReachesPointOn, LivesPointOn}
 
 -- a number for a reaching row and a live row of one point, and an end row of another task
 abbrev pub Count : Type 0
 Count = Row → Row → Row → ℕ
 
 -- three rows that paths make: a reaching and a live one where `done` references of a block of i are done, and one that j ends with
-pub record Rows (k : Cache) (i j : Task) : Type 0 where
+pub record RowsOn (q : Policy) (i j : Task) : Type 0 where
   pub at : ℕ
   pub done : ℕ
   pub reaching : Row
   pub live : Row
   pub ending : Row
-  pub reaches : ReachesPoint k i at done reaching
-  pub lives : LivesPoint k i at done live
-  pub ends : Reaches k j (end j) ending
+  pub reaches : ReachesPointOn q i at done reaching
+  pub lives : LivesPointOn q i at done live
+  pub ends : ReachesOn q j (end j) ending
+
+abbrev pub Rows : Cache → Task → Task → Type 0
+Rows k = RowsOn (oneLine k)
 
 -- what v counts on three such rows
-abbrev pub counted : Count → {k : Cache} {i j : Task} → Rows k i j → ℕ
+abbrev pub counted : Count → {q : Policy} {i j : Task} → RowsOn q i j → ℕ
 counted v x = v (x .reaching) (x .live) (x .ending)
 
 -- x is the most that v counts over all rows that paths make at the points of i with the property, and 0 where there are none
-pub record Most (v : Count) (k : Cache) (i j : Task) (At : ℕ → ℕ → Type 0) (x : ℕ) : Type 0 where
-  pub bound : (rows : Rows k i j) → At (rows .at) (rows .done) → counted v rows ≤ x
-  pub attained : (x ≡ 0) ⊎ ((rows : Rows k i j) × At (rows .at) (rows .done) × (counted v rows ≡ x))
+pub record MostOn (v : Count) (q : Policy) (i j : Task) (At : ℕ → ℕ → Type 0) (x : ℕ) : Type 0 where
+  pub bound : (rows : RowsOn q i j) → At (rows .at) (rows .done) → counted v rows ≤ x
+  pub attained : (x ≡ 0) ⊎ ((rows : RowsOn q i j) × At (rows .at) (rows .done) × (counted v rows ≡ x))
+
+abbrev pub Most : Count → Cache → Task → Task → (ℕ → ℕ → Type 0) → ℕ → Type 0
+Most v k = MostOn v (oneLine k)
 
 -- "Pair number of task i preempted by task j: the most cache blocks .., over all blocks, row pairs and used sets."; Point 1: "Pair numbers range
 -- over blocks with flag 0 and are 0 if a task has none."; Point 5, which puts end rows in place of used sets: "A cache block counts when it is

@@ -1,4 +1,5 @@
 -- Document 01, "Paths and cache", and document 02, Points 1, 5 and 6: disturbed runs, U, D and the lost hits. Definitions only.
+-- A name with `On` is over a cache of any kind, a `Policy`; the same name without it is that at document 01's cache.
 use mathlib.Core.Path.{_≡_}
 use mathlib.Core.Logic.{_≢_, _⊎_}
 use mathlib.Core.Bool.{Bool, not, _&&_}
@@ -7,7 +8,7 @@ use Prim.Native.Nat.{ℕ, suc, _+_, _≤_, _<_}
 use lib.Dec.{eqb}
 use lib.ListN.{length, getD}
 use Rattle.cache.specs.Sum.{bit}
-use Rattle.cache.specs.Cache.{Cache, Row, emptyRow, hits, withReference, withReferences}
+use Rattle.cache.specs.Cache.{Cache, Row, hits, withReference, Policy, oneLine, referAll}
 use Rattle.model.specs.Lists.{Each, keep}
 use Rattle.model.specs.Tasks.{Block, Task, block, Unmasked, Done, Path, Complete, references, task}
 
@@ -84,47 +85,74 @@ pub record RowCount : Type 0 where
   pub count : ℕ
 
 -- "at first the empty cache and 0."
+abbrev pub atFirstOn : Policy → RowCount
+atFirstOn q = record { row = q .first; count = 0 }
+
 abbrev pub atFirst : Cache → RowCount
-atFirst k = record { row = emptyRow k; count = 0 }
+atFirst k = atFirstOn (oneLine k)
 
 -- "it makes the references .. in order and adds 1 for each miss,"
+abbrev pub ownReferencesOn : Policy → RowCount → List ℕ → RowCount
+ownReferencesOn q s [] = s
+ownReferencesOn q s (m ∷ ms) = ownReferencesOn q (record { row = q .refer (s .row) m; count = s .count + bit (not (q .found (s .row) m)) }) ms
+
 abbrev pub ownReferences : Cache → RowCount → List ℕ → RowCount
-ownReferences k s [] = s
-ownReferences k s (m ∷ ms) = ownReferences k (record { row = withReference k (s .row) m; count = s .count + bit (not (hits k (s .row) m)) }) ms
+ownReferences k = ownReferencesOn (oneLine k)
 
 -- "A preemption makes all references of its path in order on the row as it stands and adds nothing."
+abbrev pub preemptedOn : Policy → List Task → RowCount → Preemption → RowCount
+preemptedOn q ts s x = record { row = referAll q (s .row) (references (task ts (x .by)) (x .path)); count = s .count }
+
 abbrev pub preempted : Cache → List Task → RowCount → Preemption → RowCount
-preempted k ts s x = record { row = withReferences k (s .row) (references (task ts (x .by)) (x .path)); count = s .count }
+preempted k = preemptedOn (oneLine k)
 
 -- "Each step gets the row that the last one left"
+abbrev pub preemptedByOn : Policy → List Task → RowCount → List Preemption → RowCount
+preemptedByOn q ts s [] = s
+preemptedByOn q ts s (x ∷ xs) = preemptedByOn q ts (preemptedOn q ts s x) xs
+
 abbrev pub preemptedBy : Cache → List Task → RowCount → List Preemption → RowCount
-preemptedBy k ts s [] = s
-preemptedBy k ts s (x ∷ xs) = preemptedBy k ts (preempted k ts s x) xs
+preemptedBy k = preemptedByOn (oneLine k)
 
 -- "the preemptions with this point in list order"
 abbrev pub withPoint : ℕ → ℕ → List Preemption → List Preemption
 withPoint i d xs = keep (λ (x : Preemption). eqb (x .position) i && eqb (x .done) d) xs
 
 -- what stands after a point: its reference is made, "then [the run] takes the preemptions with this point"
+abbrev pub afterPointOn : Policy → List Task → List Preemption → RowCount → Point → RowCount
+afterPointOn q ts xs s x = preemptedByOn q ts (ownReferencesOn q s (x .reference)) (withPoint (x .position) (x .done) xs)
+
 abbrev pub afterPoint : Cache → List Task → List Preemption → RowCount → Point → RowCount
-afterPoint k ts xs s x = preemptedBy k ts (ownReferences k s (x .reference)) (withPoint (x .position) (x .done) xs)
+afterPoint k = afterPointOn (oneLine k)
 
 -- "It takes the positions in rising order.", and in each the points in rising order: Point 6, "A preemption may follow every single reference."
+abbrev pub runOn : Policy → List Task → List Preemption → RowCount → List Point → RowCount
+runOn q ts xs s [] = s
+runOn q ts xs s (x ∷ rest) = runOn q ts xs (afterPointOn q ts xs s x) rest
+
 abbrev pub run : Cache → List Task → List Preemption → RowCount → List Point → RowCount
-run k ts xs s [] = s
-run k ts xs s (x ∷ rest) = run k ts xs (afterPoint k ts xs s x) rest
+run k = runOn (oneLine k)
 
 -- the count at the end of the path of a task, with a list of preemptions
+abbrev pub countAtEndOn : Policy → List Task → Task → Path → List Preemption → ℕ
+countAtEndOn q ts t path xs = runOn q ts xs (atFirstOn q) (points t 0 path) .count
+
 abbrev pub countAtEnd : Cache → List Task → Task → Path → List Preemption → ℕ
-countAtEnd k ts t path xs = run k ts xs (atFirst k) (points t 0 path) .count
+countAtEnd k = countAtEndOn (oneLine k)
 
 -- "D is the count at the end;"
+abbrev pub DOn : Policy → {ts : List Task} → DisturbedRun ts → ℕ
+DOn q {ts} r = countAtEndOn q ts (task ts (r .p)) (r .path) (r .preemptions)
+
 abbrev pub D : Cache → {ts : List Task} → DisturbedRun ts → ℕ
-D k {ts} r = countAtEnd k ts (task ts (r .p)) (r .path) (r .preemptions)
+D k r = DOn (oneLine k) r
 
 -- "U is the count at the end of the same path with the empty list."
+abbrev pub UOn : Policy → {ts : List Task} → DisturbedRun ts → ℕ
+UOn q {ts} r = countAtEndOn q ts (task ts (r .p)) (r .path) []
+
 abbrev pub U : Cache → {ts : List Task} → DisturbedRun ts → ℕ
-U k {ts} r = countAtEnd k ts (task ts (r .p)) (r .path) []
+U k r = UOn (oneLine k) r
 
 -- ---- document 02, Point 5: "a third number, the hits of the undisturbed run that became misses"
 

@@ -7,7 +7,6 @@ use mathlib.Core.List.{List}
 use Prim.Native.Nat.{ℕ, _≤_}
 use native.Mathlib.Omega.{arith}
 use borrow.Author.Tests.{not-false, eq-eqb}
-use Rattle.cache.specs.declared.blocks.CacheShape.{CacheShape}
 use Rattle.project.specs.declared.answers.Check.{Check}
 use Rattle.project.specs.declared.answers.Check.the-variants.{Passed}
 use Rattle.project.specs.declared.answers.Check.the-variants.{Refused as Failed}
@@ -16,7 +15,7 @@ use Rattle.project.specs.File.{cacheBlocks, taskCount}
 use Rattle.project.specs.Checklist.{noTask, andThen}
 use Rattle.project.specs.Reading.{fileChecks, fileCheck, readingOf}
 use Rattle.project.specs.Bodies.{accepted}
-use Rattle.project.specs.Tasks.{tasksOf, fileShape}
+use Rattle.project.specs.Tasks.{tasksOf}
 use Rattle.project.proofs.Checklists.{verdict-append}
 use Rattle.project.proofs.Accepted.{unless-passed, accepted-passed}
 use Rattle.reader.proofs.TaskBodies.{reading, refused-check}
@@ -151,6 +150,3 @@ module _ (s sheet : List ℕ) (file : accepted (readingOf s) ≡ true) where
 module _ (s : List ℕ) {n u : ℕ} (e : readingOf s ≡ Accepted n u) where
   pub tasks-of : {t : ℕ} → t ≡ u → t ≡ taskCount s
   tasks-of q = q ∙ accepted-passed s n u e .2
-
-  pub shape-of : _≡_ {A = CacheShape} (record { blocks = n }) (fileShape s)
-  shape-of = rw (accepted-passed s n u e .1)

@@ -13,6 +13,7 @@ use Rattle.model.specs.Tasks.{Task, task}
 use Rattle.model.specs.Runs.{RowCount, ownReferences}
 use Rattle.model.specs.Nested.{noRun}
 use Rattle.model.proofs.RunEvents.{own-row}
+use Rattle.model.proofs.Width.{misses-width}
 use Rattle.body.specs.Decode.{decode, taskOf}
 use Rattle.project.specs.File.{File, cacheBlocks, taskCount, bodyOf}
 use Rattle.project.specs.Tasks.{tasksOf, fileShape}
@@ -26,7 +27,6 @@ use Rattle.runs.proofs.PathCounts.{own-misses, own-bound, own-append, part-few}
 use Rattle.runs.proofs.PartTurns.{before-last}
 use Rattle.runs.proofs.RunLaws.{walked}
 use Rattle.runs.proofs.Segments.{done-le}
-use Rattle.runs.proofs.Widths.{misses-width}
 use Rattle.replay.proofs.OwnPath.{complete-blocks}
 use Rattle.replay.proofs.CountLaws.{firstPoint}
 use Rattle.nested_sheet.specs.NestedSheet.{RunInRules}

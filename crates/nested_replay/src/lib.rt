@@ -21,6 +21,7 @@ use project::answers::Check;
 use project::answers::NO_TASK;
 use project::answers::Reading;
 use project::head::head;
+use reader::file_shape;
 use reader::read_bodies;
 use totals::total_misses;
 
@@ -60,12 +61,7 @@ fn replay_bodies(file: &[u8], sheet: &[u16]) -> NestedReplaying
 {
     match read_bodies(file) {
         Reading::Refused { check, task } => NestedReplaying::Refused { check, task },
-        Reading::Accepted { n, t } => replay_sheet(
-            file,
-            sheet,
-            byte_count(t),
-            CacheShape { blocks: n },
-        ),
+        Reading::Accepted { n: _, t } => replay_sheet(file, sheet, byte_count(t), file_shape(file)),
     }
 }
 

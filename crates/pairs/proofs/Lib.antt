@@ -1,3 +1,4 @@
 pub mod ReplacedSets
 pub mod UsefulSets
 pub mod Meeting
+pub mod OneRow

@@ -45,7 +45,7 @@ module _ (us vs : List ℕ) (number : ℕ) where
 
 -- a set has no more in common with another than it has
 
-and-ones : (k a b : ℕ) → a < 2 ^ k → ones (bitAnd a b) ≤ ones a
+pub and-ones : (k a b : ℕ) → a < 2 ^ k → ones (bitAnd a b) ≤ ones a
 and-ones zero a b h = let z : a ≡ 0 = omega arith in rw (z, and-zero-l b) (omega arith)
 and-ones (suc k) a b h =
     let x = bitAnd (a / 2) (b / 2) in

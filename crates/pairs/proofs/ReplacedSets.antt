@@ -36,7 +36,7 @@ lent-width w k m l h e g = rw (lent-long w k m l h e) g
 
 -- ---- a turn of the passes over the end rows, of which k were seen
 
-any-append : (test : List ℕ → Bool) (a b : List (List ℕ)) → anyRow test (a ++ b) ≡ (anyRow test a || anyRow test b)
+pub any-append : (test : List ℕ → Bool) (a b : List (List ℕ)) → anyRow test (a ++ b) ≡ (anyRow test a || anyRow test b)
 any-append test [] b = refl
 any-append test (f ∷ a) b = ap (λ (x : Bool). test f || x) (any-append test a b) ∙ sym (or-assoc (test f) (anyRow test a) (anyRow test b))
 
@@ -155,7 +155,7 @@ module _ (r : List ℕ) where
       omega (arith, one, more, all-bounds fs l)
 
   -- what an end row replaces is used by the end row
-  some-used : (fs : List (List ℕ)) (c : ℕ) → someReplaces fs r c ≡ true → someUses fs c ≡ true
+  pub some-used : (fs : List (List ℕ)) (c : ℕ) → someReplaces fs r c ≡ true → someUses fs c ≡ true
   some-used [] c e = absurd (false≢true e)
   some-used (f ∷ fs) c e = elim (or-cases (replaces f r c) (someReplaces fs r c) e) [
     | inl h ↦ or-left (used f c) (someUses fs c) (both-left (used f c) (not (eqb (held f c) (held r c))) h)
@@ -170,14 +170,8 @@ module _ (r : List ℕ) where
         (common-mono (length r) (useful r (overlay l rest)) (someReplaces fs r) (kept r rest) (someReplaces fs r) (λ c e. overlaid l rest c (held r c) e) (λ c e. e)))
         ls
 
-    most-used : pointMost r rest ls fs ≤ ones (bitAnd (keptSet r rest) (bits (length r) (someUses fs)))
-    most-used = le-trans most-held (common-mono (length r) (kept r rest) (someReplaces fs r) (kept r rest) (someUses fs) (λ c e. e) (some-used fs))
-
-    -- so a number stays where what can be useful has no more in common with what the end rows use, or with what they replace
+    -- so a number stays where what can be useful has no more in common with what the end rows replace
     module _ (number : ℕ) {mine other both : ℕ} (is : mine ≡ keptSet r rest) (few : both ≤ number) (e : both ≡ ones (bitAnd mine other)) where
-      pub stays-used : other ≡ bits (length r) (someUses fs) → number ≡ max number (pointMost r rest ls fs)
-      stays-used d = omega (arith, few, e, ap₂ (λ (x y : ℕ). ones (bitAnd x y)) is d, most-used)
-
       pub stays-replaced : other ≡ bits (length r) (someReplaces fs r) → number ≡ max number (pointMost r rest ls fs)
       stays-replaced d = omega (arith, few, e, ap₂ (λ (x y : ℕ). ones (bitAnd x y)) is d, most-held)
 

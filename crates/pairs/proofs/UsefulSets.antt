@@ -1,14 +1,14 @@
 -- The useful sets of a reaching row at a point: the most that they have in common with what end rows replace is the most over the live rows that they are made
--- of, and what none of the tasks' unions can raise stays.
+-- of, and a number that the row cannot raise stays.
 use mathlib.Core.Path.{_≡_, refl, sym, ap, _∙_}
 use mathlib.Core.Bool.{Bool, true, false, true≢false}
 use mathlib.Core.List.{List, [], _∷_, map, map-map}
 use Prim.Native.Nat.{ℕ, zero, suc, _+_, _-_, _≤_, _<_, max}
 use native.Mathlib.Numerals.{add-one}
 use native.Mathlib.Omega.{arith}
-use lib.Dec.{eqb, ltb}
+use lib.Dec.{eqb}
 use lib.ListN.{length, getD, take, drop}
-use lib.Bits.{bitAnd}
+use lib.Bits.{bitAnd, and-comm}
 use lib.Count.{ones}
 use borrow.Author.Tests.{eqb-true, eqb-false, ltb-false}
 use Rattle.cache.specs.Sets.{bits}
@@ -16,8 +16,8 @@ use Rattle.model.specs.Lists.{best}
 use Rattle.model.proofs.Membership.{or-left, or-right}
 use Rattle.rows.specs.Overlay.{overlay}
 use Rattle.rows.proofs.Parts.{lent-first}
-use Rattle.pairs.specs.Pairs.{usefulSet, keptSet, usefulSets, usefulSizes, UsefulSets, replacedSets, someReplaces, mostCommon, NoMoreThanAll, pointMost, usefulMost, someUses, mayRaise, someBelow, mayRaiseSome, endsOf, EndRows, Met}
-use Rattle.pairs.proofs.ReplacedSets.{all-bounds, stays-used, stays-replaced}
+use Rattle.pairs.specs.Pairs.{usefulSet, keptSet, usefulSets, usefulSizes, UsefulSets, replacedSets, someReplaces, mostCommon, setsMost, NoMoreThanAll, pointMost, usefulMost, someBelow, mayRaiseSome, endsOf, Met}
+use Rattle.pairs.proofs.ReplacedSets.{all-bounds, stays-replaced}
 
 -- ---- the sets are made of some live rows
 
@@ -53,6 +53,16 @@ module _ (r : List ℕ) (held : ℕ) (us sizes : List ℕ) (is : UsefulSets r he
       (each-made (λ u. mostCommon u (replacedSets r fs) ≤ ones (bitAnd u (bits (length r) (someReplaces fs r)))) (λ (l : List ℕ). usefulSet r (overlay l (is .rest)))
       (λ l. all-bounds r fs (overlay l (is .rest))) (is .lives))
 
+  -- so the most is no more than the most that one of the useful sets has in common with all of them
+  pub most-of-all : (fs : List (List ℕ)) {all : ℕ} → all ≡ bits (length r) (someReplaces fs r) → usefulMost r us fs ≤ mostCommon all us
+  most-of-all fs {all} d = go us (part-bounded fs refl d)
+    where
+      go : (l : List ℕ) → NoMoreThanAll l (replacedSets r fs) all → setsMost l (replacedSets r fs) ≤ mostCommon all l
+      go [] h = omega arith
+      go (u ∷ l) h =
+          let first : mostCommon u (replacedSets r fs) ≤ ones (bitAnd all u) = rw (and-comm all u) (h 0 (omega arith)) in
+          omega (arith, first, go l (λ k b. h (suc k) (omega arith)))
+
 -- the first n of the sets and of the sizes were lent as parts
 module _ (r rest : List ℕ) (ls : List (List ℕ)) (n : ℕ) (sets : List ℕ) (e : take n sets ≡ usefulSets r rest ls) where
   pub lent-sets : (sizes : List ℕ) {held : ℕ} → held ≡ keptSet r rest → take n sizes ≡ usefulSizes r rest ls
@@ -83,23 +93,15 @@ module _ (test : ℕ → Bool) where
       go true q = absurd (true≢false (sym (some-here n j l q) ∙ e))
       go false q = q
 
--- what may not raise a number leaves it
-stays : (row rest : List ℕ) (ls fs : List (List ℕ)) (number : ℕ) {held joined : ℕ} → held ≡ keptSet row rest → joined ≡ bits (length row) (someUses fs)
-    → mayRaise row held joined number fs ≡ false → number ≡ max number (pointMost row rest ls fs)
-stays row rest ls fs number {held} {joined} is union e = go (ltb number (ones (bitAnd held joined))) refl
-  where
-    go : (s : Bool) → ltb number (ones (bitAnd held joined)) ≡ s → number ≡ max number (pointMost row rest ls fs)
-    go false q = stays-used row rest ls fs number is (ltb-false number (ones (bitAnd held joined)) q) refl union
-    go true q =
-        let all = bits (length row) (someReplaces fs row) in
-        stays-replaced row rest ls fs number is (ltb-false number (ones (bitAnd held all)) (rw q at e)) refl refl
-
 -- where none may be raised, the numbers are met as they are
-pub met-as-is : (row rest ends counts unions numbers : List ℕ) (ls : List (List ℕ)) (tasks : ℕ) {held : ℕ} → EndRows (length row) ends counts unions tasks
-    → held ≡ keptSet row rest → mayRaiseSome row held ends counts unions numbers tasks ≡ false → Met (pointMost row rest ls) (length row) ends counts tasks numbers numbers
-met-as-is row rest ends counts unions numbers ls tasks {held} rows is e =
+pub met-as-is : (row rest ends counts numbers : List ℕ) (ls : List (List ℕ)) (tasks : ℕ) {held : ℕ}
+    → held ≡ keptSet row rest → mayRaiseSome row held ends counts numbers tasks ≡ false → Met (pointMost row rest ls) (length row) ends counts tasks numbers numbers
+met-as-is row rest ends counts numbers ls tasks {held} is e =
     record {
       long = refl;
-      each = λ j h. stays row rest ls (endsOf (length row) ends counts j) (getD numbers j 0) is (rows .joined j (omega (arith, rows .inside))) (some-not _ tasks j e h);
+      each = λ j h.
+          let fs = endsOf (length row) ends counts j in
+          let all = bits (length row) (someReplaces fs row) in
+          stays-replaced row rest ls fs (getD numbers j 0) is (ltb-false (getD numbers j 0) (ones (bitAnd held all)) (some-not _ tasks j e h)) refl refl;
       rest = λ j h. refl;
     }

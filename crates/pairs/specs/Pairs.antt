@@ -1,13 +1,14 @@
 -- Document 01, "Paths and cache", and document 02, Points 5 and 6: the sets of cache blocks useful in and replaced by tasks, and the most that they
 -- have in common at a point. Definitions only.
 use mathlib.Core.Path.{_≡_}
-use mathlib.Core.Bool.{Bool, false, not, _&&_, _||_}
+use mathlib.Core.Bool.{Bool, true, false, not, _&&_, _||_}
 use mathlib.Core.List.{List, [], _∷_, map}
-use Prim.Native.Nat.{ℕ, zero, suc, _*_, _≤_, _<_, max}
-use lib.Dec.{ltb}
-use lib.ListN.{length, getD}
+use Prim.Native.Nat.{ℕ, zero, suc, _+_, _*_, _≤_, _<_, max}
+use lib.Dec.{eqb, ltb}
+use lib.ListN.{length, getD, take, drop}
 use lib.Bits.{bitAnd}
 use lib.Count.{ones}
+use Rattle.cache.specs.Cache.{held}
 use Rattle.cache.specs.Sets.{useful, used, replaces, bits}
 use Rattle.model.specs.Lists.{best}
 use Rattle.rows.specs.Overlay.{overlay}
@@ -85,20 +86,45 @@ usefulMost r us fs = setsMost us (replacedSets r fs)
 abbrev pub endsOf : ℕ → List ℕ → List ℕ → ℕ → List (List ℕ)
 endsOf w ends counts j = heldRows w ends counts j
 
--- one list for at most 8 tasks, with at most 32 end rows of w numbers for each, and the union of the used sets of the end rows of each
-pub record EndRows (w : ℕ) (ends counts unions : List ℕ) (tasks : ℕ) : Type 0 where
+-- whether one of the end rows holds m at the cache block c
+abbrev pub someHolds : List (List ℕ) → ℕ → ℕ → Bool
+someHolds fs c m = anyRow (λ (f : List ℕ). eqb (held f c) m) fs
+
+-- the one row for some end rows: at a cache block that one of them uses it holds a memory block that one of them holds there, and at any other nothing
+pub record OneOfThem (w : ℕ) (fs : List (List ℕ)) (one : List ℕ) : Type 0 where
+  pub wide : length one ≡ w
+  pub from : (c : ℕ) → used one c ≡ true → someHolds fs c (held one c) ≡ true
+  pub all : (c : ℕ) → c < w → someUses fs c ≡ true → used one c ≡ true
+
+-- such a row, and `mixed`, the cache blocks where one of the end rows holds another memory block than it: where they hold more than one. These two say
+-- what some end row replaces in whatever row (OneRow, `joined-replaces`)
+pub record Joined (w : ℕ) (fs : List (List ℕ)) (one : List ℕ) (mixed : ℕ) : Type 0 where
+  pub row : OneOfThem w fs one
+  pub others : mixed ≡ bits w (someReplaces fs one)
+
+-- the one row for the end rows of task j, in the same list: these rows stand after the end rows of all tasks
+abbrev pub oneOf : ℕ → List ℕ → ℕ → List ℕ
+oneOf w ends j = take w (drop (8 * (32 * w) + w * j) ends)
+
+-- how long that list is
+abbrev pub endsLength : ℕ → ℕ
+endsLength w = 8 * (32 * w) + 8 * w
+
+-- one list for at most 8 tasks, with at most 32 end rows of w numbers for each, and the one row for those of each of the first `tasks`; `mixed` has for
+-- each task the cache blocks where its end rows hold more than one memory block
+pub record EndRows (w : ℕ) (ends counts mixed : List ℕ) (tasks : ℕ) : Type 0 where
   pub width : Width w
-  pub long : length ends ≡ 8 * (32 * w)
+  pub long : length ends ≡ endsLength w
   pub many : length counts ≡ 8
-  pub each : length unions ≡ 8
+  pub each : length mixed ≡ 8
   pub few : (j : ℕ) → j < 8 → getD counts j 0 ≤ 32
-  pub joined : (j : ℕ) → j < 8 → getD unions j 0 ≡ bits w (someUses (endsOf w ends counts j))
+  pub joined : (j : ℕ) → j < tasks → Joined w (endsOf w ends counts j) (oneOf w ends j) (getD mixed j 0)
   pub inside : tasks ≤ 8
 
--- whether a row r, of which `held` can be useful, has more of these cache blocks than the number says among those that the end rows fs use, whose union is
--- `joined`, and among those where they replace what r holds: else it does not raise the number
-abbrev pub mayRaise : List ℕ → ℕ → ℕ → ℕ → List (List ℕ) → Bool
-mayRaise r held joined number fs = ltb number (ones (bitAnd held joined)) && ltb number (ones (bitAnd held (bits (length r) (someReplaces fs r))))
+-- whether a row r, of which `held` can be useful, has more of these cache blocks than the number says among those where the end rows fs replace what
+-- r holds: else it does not raise the number
+abbrev pub mayRaise : List ℕ → ℕ → ℕ → List (List ℕ) → Bool
+mayRaise r held number fs = ltb number (ones (bitAnd held (bits (length r) (someReplaces fs r))))
 
 -- whether a number below n passes the test
 abbrev pub someBelow : (ℕ → Bool) → ℕ → Bool
@@ -106,9 +132,8 @@ someBelow test zero = false
 someBelow test (suc j) = test j || someBelow test j
 
 -- whether the row may raise one of the numbers of the tasks
-abbrev pub mayRaiseSome : List ℕ → ℕ → List ℕ → List ℕ → List ℕ → List ℕ → ℕ → Bool
-mayRaiseSome r held ends counts unions numbers tasks =
-    someBelow (λ j. mayRaise r held (getD unions j 0) (getD numbers j 0) (endsOf (length r) ends counts j)) tasks
+abbrev pub mayRaiseSome : List ℕ → ℕ → List ℕ → List ℕ → List ℕ → ℕ → Bool
+mayRaiseSome r held ends counts numbers tasks = someBelow (λ j. mayRaise r held (getD numbers j 0) (endsOf (length r) ends counts j)) tasks
 
 -- what the numbers of a task become for each task below `tasks`: the larger of the number and the most over the end rows of that task
 pub record Met (most : List (List ℕ) → ℕ) (w : ℕ) (ends counts : List ℕ) (tasks : ℕ) (old new : List ℕ) : Type 0 where

@@ -1,13 +1,14 @@
 // The numbers of a task at one point: for each task the most cache blocks that are useful in the one and replaced by the other.
 ghost use mathlib.Core.Path.{_≡_};
-ghost use mathlib.Core.List.{map};
-ghost use Prim.Native.Nat.{_*_, _≤_, max};
+ghost use mathlib.Core.List.{List, map};
+ghost use Prim.Native.Nat.{ℕ, _*_, _≤_, max};
 ghost use lib.Bits.{bitAnd};
 ghost use lib.Count.{ones};
 ghost use lib.ListN.{length};
 ghost use Rattle.cache.specs.Sets.{bits};
 ghost use Rattle.rows.specs.Rows.{Width, rowsOf};
-ghost use Rattle.pairs.specs.Pairs.{someUses, mostCommon, setsMost, NoMoreThanAll, UsefulSets, usefulMost, pointMost, EndRows, mayRaise, mayRaiseSome, Met};
+ghost use Rattle.pairs.specs.Pairs.{someReplaces, mostCommon, setsMost, NoMoreThanAll, UsefulSets, usefulMost, pointMost, Joined, EndRows, mayRaise, mayRaiseSome, Met};
+use crate::replaced::replaced_by_some;
 use crate::replaced::replaced_sets;
 use crate::useful::kept;
 use crate::useful::useful_sets;
@@ -56,7 +57,8 @@ fn raised_by_sets(number: u16, useful: &[u32], sizes: &[u32], sets: &[u32], all:
 }
 
 // The number, raised to the most for a reaching row, its useful sets, of these sizes, and the first `count` end rows of one task; `held` are the cache
-// blocks of the row that can be useful, and `joined` the union of the used sets of the end rows. The useful sets are not looked at where these tell that the number stays.
+// blocks of the row that can be useful, and `all` those where one of the end rows replaces what it holds. The end rows are not looked at where these
+// tell that the number stays.
 fn raised_by_row(
     number: u16,
     row: &[u16],
@@ -65,22 +67,22 @@ fn raised_by_row(
     sizes: &[u32],
     ends: &[u16],
     count: usize,
-    joined: u32,
+    all: u32,
 ) -> u16
     requires { ⌜ Width (length (now row)) × UsefulSets (now row) held (now useful) (now sizes)
         × (length (now ends) ≡ 32 * length (now row)) × (count ≤ 32)
-        × (joined ≡ bits (length (now row)) (someUses (rowsOf (length (now row)) count (now ends)))) ⌝ }
+        × (all ≡ bits (length (now row)) (someReplaces (rowsOf (length (now row)) count (now ends)) (now row))) ⌝ }
     ensures { λ r. ⌜ r ≡ max number (usefulMost (now (row .entry)) (now (useful .entry))
         (rowsOf (length (now (row .entry))) count (now (ends .entry)))) ⌝ }
 {
-    if common(held, joined) <= number as u32 {
-        return number;
-    }
-    let mut sets = [0u32; 32];
-    let all = replaced_sets(row, ends, count, &mut sets);
     if common(held, all) <= number as u32 {
         return number;
     }
+    if most_common(all, useful) <= number as u32 {
+        return number;
+    }
+    let mut sets = [0u32; 32];
+    replaced_sets(row, ends, count, &mut sets);
     raised_by_sets(number, useful, sizes, &sets[0..count], all)
 }
 
@@ -92,18 +94,21 @@ fn meet_sets(
     sizes: &[u32],
     ends: &[u16],
     counts: &[usize],
-    unions: &[u32],
+    mixed: &[u32],
     tasks: usize,
     numbers: &mut [u16],
 )
-    requires { ⌜ EndRows (length (now row)) (now ends) (now counts) (now unions) tasks × UsefulSets (now row) held (now useful) (now sizes)
+    requires { ⌜ EndRows (length (now row)) (now ends) (now counts) (now mixed) tasks × UsefulSets (now row) held (now useful) (now sizes)
         × (length (now numbers) ≡ 8) ⌝ }
     ensures { λ _. ⌜ Met (usefulMost (now (row .entry)) (now (useful .entry)))
         (length (now (row .entry))) (now (ends .entry)) (now (counts .entry)) tasks (now (numbers .entry)) (now (numbers .exit)) ⌝ }
 {
-    let part = 32 * row.len();
+    let w = row.len();
+    let part = 32 * w;
     for j in 0..tasks {
         let at = part * j;
+        let from = 8 * part + w * j;
+        let all = replaced_by_some(row, &ends[from..from + w], mixed[j]);
         numbers[j] = raised_by_row(
             numbers[j],
             row,
@@ -112,23 +117,23 @@ fn meet_sets(
             sizes,
             &ends[at..at + part],
             counts[j],
-            unions[j],
+            all,
         );
     }
 }
 
-// Whether a reaching row may raise the number against the first `count` end rows of one task: else it has no more cache blocks than `number` among
-// those that the end rows use, whose union is `joined`, or among those where they replace what it holds. `held` are those of its cache blocks that can be useful.
-fn may_raise(number: u16, row: &[u16], held: u32, ends: &[u16], count: usize, joined: u32) -> bool
-    requires { ⌜ Width (length (now row)) × (length (now ends) ≡ 32 * length (now row)) × (count ≤ 32) ⌝ }
-    ensures { λ r. ⌜ r ≡ mayRaise (now (row .entry)) held joined number (rowsOf (length (now (row .entry))) count (now (ends .entry))) ⌝ }
+// Whether a reaching row may raise the number, for the end rows of a task with this one row and these mixed cache blocks: else it has no more cache blocks
+// than the number among those where the end rows replace what it holds. `held` are those of its cache blocks that can be useful; where these are no more
+// than the number, the end rows are not asked.
+fn may_raise(row: &[u16], held: u32, one: &[u16], mixed: u32, number: u16) -> bool
+    requires { ⌜ Width (length (now row)) × (length (now one) ≡ length (now row)) ⌝ }
+    ensures { λ r. ⌜ ((fs : List (List ℕ)) → Joined (length (now (row .entry))) fs (now (one .entry)) mixed
+        → r ≡ mayRaise (now (row .entry)) held number fs) ⌝ }
 {
-    if common(held, joined) <= number as u32 {
+    if u32::count_ones(held) <= number as u32 {
         return false;
     }
-    let mut sets = [0u32; 32];
-    let all = replaced_sets(row, ends, count, &mut sets);
-    (number as u32) < common(held, all)
+    (number as u32) < common(held, replaced_by_some(row, one, mixed))
 }
 
 // Whether a reaching row may raise one of the numbers.
@@ -137,25 +142,18 @@ fn may_raise_some(
     held: u32,
     ends: &[u16],
     counts: &[usize],
-    unions: &[u32],
+    mixed: &[u32],
     tasks: usize,
     numbers: &[u16],
 ) -> bool
-    requires { ⌜ EndRows (length (now row)) (now ends) (now counts) (now unions) tasks × (length (now numbers) ≡ 8) ⌝ }
-    ensures { λ r. ⌜ r ≡ mayRaiseSome (now (row .entry)) held (now (ends .entry)) (now (counts .entry)) (now (unions .entry))
-        (now (numbers .entry)) tasks ⌝ }
+    requires { ⌜ EndRows (length (now row)) (now ends) (now counts) (now mixed) tasks × (length (now numbers) ≡ 8) ⌝ }
+    ensures { λ r. ⌜ r ≡ mayRaiseSome (now (row .entry)) held (now (ends .entry)) (now (counts .entry)) (now (numbers .entry)) tasks ⌝ }
 {
-    let part = 32 * row.len();
+    let w = row.len();
+    let first = 8 * (32 * w);
     for j in 0..tasks {
-        let from = part * j;
-        if may_raise(
-            numbers[j],
-            row,
-            held,
-            &ends[from..from + part],
-            counts[j],
-            unions[j],
-        ) {
+        let from = first + w * j;
+        if may_raise(row, held, &ends[from..from + w], mixed[j], numbers[j]) {
             return true;
         }
     }
@@ -171,17 +169,17 @@ pub fn meet_point(
     lived: usize,
     ends: &[u16],
     counts: &[usize],
-    unions: &[u32],
+    mixed: &[u32],
     tasks: usize,
     numbers: &mut [u16],
 )
-    requires { ⌜ EndRows (length (now row)) (now ends) (now counts) (now unions) tasks × (length (now rest) ≡ length (now row))
+    requires { ⌜ EndRows (length (now row)) (now ends) (now counts) (now mixed) tasks × (length (now rest) ≡ length (now row))
         × (length (now live) ≡ 32 * length (now row)) × (lived ≤ 32) × (length (now numbers) ≡ 8) ⌝ }
     ensures { λ _. ⌜ Met (pointMost (now (row .entry)) (now (rest .entry)) (rowsOf (length (now (row .entry))) lived (now (live .entry))))
         (length (now (row .entry))) (now (ends .entry)) (now (counts .entry)) tasks (now (numbers .entry)) (now (numbers .exit)) ⌝ }
 {
     let held = kept(row, rest);
-    if may_raise_some(row, held, ends, counts, unions, tasks, numbers) {
+    if may_raise_some(row, held, ends, counts, mixed, tasks, numbers) {
         let mut sets = [0u32; 32];
         let mut sizes = [0u32; 32];
         useful_sets(row, rest, live, lived, &mut sets, &mut sizes);
@@ -192,7 +190,7 @@ pub fn meet_point(
             &sizes[0..lived],
             ends,
             counts,
-            unions,
+            mixed,
             tasks,
             numbers,
         );

@@ -1,11 +1,11 @@
 -- Document 02, Point 6: the rows at the points of a block, from the rows before it and after it. Definitions only.
 use mathlib.Core.Path.{_≡_}
-use mathlib.Core.Bool.{cond}
+use mathlib.Core.Bool.{Bool, true, cond}
 use mathlib.Core.List.{List, [], _∷_, _++_, map}
 use Prim.Native.Nat.{ℕ, zero, suc, _*_, _≤_}
-use lib.Dec.{eqb}
+use lib.Dec.{eqb, ltb}
 use lib.ListN.{length, getD, drop}
-use Rattle.cache.specs.Cache.{Cache, Row, emptyRow}
+use Rattle.cache.specs.Cache.{Cache, Row, emptyRow, hits}
 use Rattle.cache.specs.Firsts.{firstsOver}
 use Rattle.cache.specs.Sets.{inSet}
 use Rattle.model.specs.Tasks.{Task}
@@ -13,6 +13,10 @@ use Rattle.body.specs.Jumps.{jumpSets}
 use Rattle.body.specs.Turned.{turned}
 use Rattle.rows.specs.Overlay.{overlay}
 use Rattle.gather.specs.Graph.{rowAt}
+
+-- whether the reference numbered d of ms hits in the row, or there is none
+abbrev pub hitsNext : Cache → Row → List ℕ → ℕ → Bool
+hitsNext k row ms d = cond (ltb d (length ms)) (hits k row (getD ms d 0)) true
 
 -- the first references of what is left of the references ms after d of them
 abbrev pub restOf : Cache → List ℕ → ℕ → Row

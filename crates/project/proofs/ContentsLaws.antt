@@ -12,8 +12,9 @@ use lib.Dec.{eqb}
 use lib.ListN.{length, getD, take, drop, set, replicate, List·getD-append}
 use lib.Seq.{length-take-le, take-suc, set-at}
 use borrow.Author.Tests.{eqb-true, eq-eqb, ne-eqb}
+use Rattle.cache.specs.References.{numberAt}
 use Rattle.model.proofs.Membership.{both-left, both-right}
-use Rattle.project.specs.File.{taskCount, offsetOf, sizeOf, bodiesFrom}
+use Rattle.project.specs.File.{edition, taskCount, contentsStart, bodiesStart, offsetOf, sizeOf, bodiesFrom}
 use Rattle.project.specs.Checks.{Contents}
 use Rattle.project.specs.Reading.{contentsFit}
 use Rattle.project.specs.Ends.{endsFrom, nine, between, endsOf}
@@ -124,7 +125,7 @@ module _ (s : List ℕ) where
   t = taskCount s
 
   abbrev from : ℕ
-  from = 8 + 4 * t
+  from = bodiesStart (edition s) t
 
   stated : 1 ≤ t → contentsFit s t 0 from ≡ true → Contents s
   stated some fit = record {
@@ -143,7 +144,7 @@ module _ (s : List ℕ) where
       let n : suc (t - 1) ≡ t = omega arith in
       ap (λ (k : ℕ). contentsFit s k 0 from) (sym n) ∙ fit-from c (t - 1) 0 from (omega arith) (c .first)
 
-  pub contents-exact : 1 ≤ taskCount s → (contentsFit s (taskCount s) 0 (8 + 4 * taskCount s) ≡ true) ↔ Contents s
+  pub contents-exact : 1 ≤ taskCount s → (contentsFit s (taskCount s) 0 (bodiesStart (edition s) (taskCount s)) ≡ true) ↔ Contents s
   contents-exact some = (stated some, fits some)
 
 -- ---- the pass over the contents: before task j the ends up to its own begin are there, and what is left fits just where the whole does
@@ -188,19 +189,28 @@ fit-end s t j at e =
     let none : t - j ≡ 0 = omega arith in
     rw none
 
+-- ---- the numbers of an entry, by where the contents begin
+
+module _ (s : List ℕ) (j : ℕ) {start : ℕ} (e : start ≡ contentsStart (edition s)) where
+  pub offset-by : numberAt s (start + 4 * j) ≡ offsetOf s j
+  offset-by = ap (λ (k : ℕ). numberAt s (k + 4 * j)) e
+
+  pub size-by : numberAt s (start + 4 * j + 2) ≡ sizeOf s j
+  size-by = ap (λ (k : ℕ). numberAt s (k + 4 * j + 2)) e
+
 -- ---- the two answers
 
-pub answer-fit : (s : List ℕ) (t : ℕ) {ends : List ℕ} → contentsFit s t 0 (8 + 4 * t) ≡ true → ends ≡ nine (endsFrom s t 0 (8 + 4 * t))
-    → (true ≡ contentsFit s t 0 (8 + 4 * t)) × (ends ≡ endsOf s t)
+pub answer-fit : (s : List ℕ) (t : ℕ) {ends : List ℕ} → contentsFit s t 0 (bodiesStart (edition s) t) ≡ true → ends ≡ nine (endsFrom s t 0 (bodiesStart (edition s) t))
+    → (true ≡ contentsFit s t 0 (bodiesStart (edition s) t)) × (ends ≡ endsOf s t)
 answer-fit s t e q = (sym e, rw e q)
 
-pub answer-none : (s : List ℕ) (t : ℕ) → contentsFit s t 0 (8 + 4 * t) ≡ false → (false ≡ contentsFit s t 0 (8 + 4 * t)) × (replicate 9 0 ≡ endsOf s t)
+pub answer-none : (s : List ℕ) (t : ℕ) → contentsFit s t 0 (bodiesStart (edition s) t) ≡ false → (false ≡ contentsFit s t 0 (bodiesStart (edition s) t)) × (replicate 9 0 ≡ endsOf s t)
 answer-none s t e = (sym e, rw e)
 
 -- a file that ends within its contents
-pub too-short : (s : List ℕ) (t : ℕ) → length s < 8 + 4 * t → contentsFit s t 0 (8 + 4 * t) ≡ false
-too-short s t h = go (contentsFit s t 0 (8 + 4 * t)) refl
+pub too-short : (s : List ℕ) (t : ℕ) → length s < bodiesStart (edition s) t → contentsFit s t 0 (bodiesStart (edition s) t) ≡ false
+too-short s t h = go (contentsFit s t 0 (bodiesStart (edition s) t)) refl
   where
-    go : (b : Bool) → contentsFit s t 0 (8 + 4 * t) ≡ b → b ≡ false
-    go true e = absurd (omega (arith, fit-within s t 0 (8 + 4 * t) e))
+    go : (b : Bool) → contentsFit s t 0 (bodiesStart (edition s) t) ≡ b → b ≡ false
+    go true e = absurd (omega (arith, fit-within s t 0 (bodiesStart (edition s) t) e))
     go false e = refl

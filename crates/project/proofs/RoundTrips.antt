@@ -1,4 +1,4 @@
--- Files written and read: a file of n and bodies has these bodies in its contents, and the file of an accepted file's bodies is that file.
+-- Files written and read: a file of an edition, n and bodies has these bodies in its contents, and the file of an accepted file's bodies is that file.
 -- The idea: both go along the contents, four bytes a task, and along the bodies, which stand one after the other.
 use mathlib.Core.Path.{_≡_, refl, sym, ap, _∙_}
 use mathlib.Core.Bool.{Bool, true}
@@ -7,13 +7,13 @@ use Prim.Native.Nat.{ℕ, zero, suc, _+_, _*_, _/_, _%_, _≤_, _<_}
 use native.Mathlib.Nat.{div-add-mod, add-mul-div-left, add-mul-mod-self-left, add-zero}
 use native.Mathlib.Omega.{arith}
 use lib.Dec.{eqb}
-use lib.ListN.{length, getD, take, drop, length-append, length-drop, take-append-drop}
+use lib.ListN.{length, getD, take, drop, length-append, length-drop, length-replicate, take-append-drop}
 use lib.Seq.{drop-cons, drop-drop, take-append-seam, drop-append-seam, drop-length, drop-at, getD-drop, length-take-le}
 use borrow.Author.Tests.{eqb-true, eq-eqb}
 use Rattle.cache.specs.References.{All, numberAt}
 use Rattle.model.proofs.Membership.{both-left, both-right}
 use Rattle.body.specs.Layout.{twoBytes}
-use Rattle.project.specs.File.{offsetOf, sizeOf, bodyOf, bodiesFrom, bodies, joined, contentsOf, fileOf}
+use Rattle.project.specs.File.{edition, reserve, contentsStart, bodiesStart, offsetOf, sizeOf, bodyOf, bodiesFrom, bodies, joined, contentsOf, headOf, fileIn}
 use Rattle.project.specs.Reading.{contentsFit}
 use Rattle.project.proofs.TaskFaults.{Bytes}
 
@@ -59,25 +59,29 @@ contents-bytes : (a b c d at size : ℕ) (rest more : List ℕ) → a < 256 → 
     → a ∷ b ∷ c ∷ d ∷ rest ≡ twoBytes (at ∷ size ∷ []) ++ more
 contents-bytes a b c d at size rest more ha hc ea ec er = rw (ea, ec, low-byte a b ha, high-byte a b ha, low-byte c d hc, high-byte c d hc, er)
 
+-- where the contents of a file begin
+abbrev start : List ℕ → ℕ
+start s = contentsStart (edition s)
+
 -- ---- what is written is read
 
 -- a list with the contents of bs at task j, and bs one after the other from `at` to its end, has fitting contents and these bodies
-pub written-contents : (bs : List (List ℕ)) (s : List ℕ) (j at : ℕ) (rest : List ℕ) → drop (8 + 4 * j) s ≡ contentsOf at bs ++ rest → drop at s ≡ joined bs
+pub written-contents : (bs : List (List ℕ)) (s : List ℕ) (j at : ℕ) (rest : List ℕ) → drop (start s + 4 * j) s ≡ contentsOf at bs ++ rest → drop at s ≡ joined bs
     → at + length (joined bs) ≡ length s → (contentsFit s (length bs) j at ≡ true) × (bodiesFrom s (length bs) j ≡ bs)
 written-contents [] s j at rest c d e = (eq-eqb at (length s) (omega arith), refl)
 written-contents (b ∷ bs) s j at rest c d e = go offset size (written-contents bs s (suc j) (at + length b) rest next-contents next-body next-end)
   where
     offset : offsetOf s j ≡ at
-    offset = pair-at s (8 + 4 * j) (at % 256) (at / 256) _ c ∙ number-split at
+    offset = pair-at s (start s + 4 * j) (at % 256) (at / 256) _ c ∙ number-split at
 
     size : sizeOf s j ≡ length b
-    size = pair-at s (8 + 4 * j + 2) (length b % 256) (length b / 256) _ (further s (8 + 4 * j) 2 _ c) ∙ number-split (length b)
+    size = pair-at s (start s + 4 * j + 2) (length b % 256) (length b / 256) _ (further s (start s + 4 * j) 2 _ c) ∙ number-split (length b)
 
-    four : 8 + 4 * j + 4 ≡ 8 + 4 * suc j
+    four : start s + 4 * j + 4 ≡ start s + 4 * suc j
     four = omega arith
 
-    next-contents : drop (8 + 4 * suc j) s ≡ contentsOf (at + length b) bs ++ rest
-    next-contents = rw (← four) (further s (8 + 4 * j) 4 _ c)
+    next-contents : drop (start s + 4 * suc j) s ≡ contentsOf (at + length b) bs ++ rest
+    next-contents = rw (← four) (further s (start s + 4 * j) 4 _ c)
 
     next-body : drop (at + length b) s ≡ joined bs
     next-body = further s at (length b) (b ++ joined bs) d ∙ drop-append-seam b (joined bs)
@@ -100,27 +104,43 @@ pub length-bodies : (s : List ℕ) (left j : ℕ) → length (bodiesFrom s left 
 length-bodies s zero j = refl
 length-bodies s (suc left) j = ap suc (length-bodies s left (suc j))
 
-module _ (n : ℕ) (bs : List (List ℕ)) where
-  drop-contents : drop (8 + 4 * length bs) (fileOf n bs) ≡ joined bs
+-- what stands ahead of the contents ends where they begin
+pub length-head : (e n t : ℕ) → 1 ≤ e → length (headOf e n t) ≡ contentsStart e
+length-head e n t some = omega (arith, length-replicate {A = ℕ} (reserve e) 0)
+
+module _ (e n : ℕ) (bs : List (List ℕ)) (some : 1 ≤ e) where
+  drop-head : drop (contentsStart e) (fileIn e n bs) ≡ contentsOf (bodiesStart e (length bs)) bs ++ joined bs
+  drop-head = drop-at (headOf e n (length bs)) _ (contentsStart e) (length-head e n (length bs) some)
+
+  drop-contents : drop (bodiesStart e (length bs)) (fileIn e n bs) ≡ joined bs
   drop-contents =
-      further (fileOf n bs) 8 (4 * length bs) (contentsOf (8 + 4 * length bs) bs ++ joined bs) refl
-      ∙ drop-at (contentsOf (8 + 4 * length bs) bs) (joined bs) (4 * length bs) (length-contents bs (8 + 4 * length bs))
+      further (fileIn e n bs) (contentsStart e) (4 * length bs) (contentsOf (bodiesStart e (length bs)) bs ++ joined bs) drop-head
+      ∙ drop-at (contentsOf (bodiesStart e (length bs)) bs) (joined bs) (4 * length bs) (length-contents bs (bodiesStart e (length bs)))
 
-  pub length-file : length (fileOf n bs) ≡ 8 + 4 * length bs + length (joined bs)
-  length-file = omega (arith, length-append (contentsOf (8 + 4 * length bs) bs) (joined bs), length-contents bs (8 + 4 * length bs))
+  pub length-file : length (fileIn e n bs) ≡ bodiesStart e (length bs) + length (joined bs)
+  length-file =
+      omega (
+        arith,
+        length-append (headOf e n (length bs)) (contentsOf (bodiesStart e (length bs)) bs ++ joined bs),
+        length-head e n (length bs) some,
+        length-append (contentsOf (bodiesStart e (length bs)) bs) (joined bs),
+        length-contents bs (bodiesStart e (length bs)),
+      )
 
-  pub file-contents : (contentsFit (fileOf n bs) (length bs) 0 (8 + 4 * length bs) ≡ true) × (bodiesFrom (fileOf n bs) (length bs) 0 ≡ bs)
-  file-contents = written-contents bs (fileOf n bs) 0 (8 + 4 * length bs) (joined bs) refl drop-contents (sym length-file)
+  pub file-contents : (contentsFit (fileIn e n bs) (length bs) 0 (bodiesStart e (length bs)) ≡ true) × (bodiesFrom (fileIn e n bs) (length bs) 0 ≡ bs)
+  file-contents =
+      let none : contentsStart e + 4 * 0 ≡ contentsStart e = omega arith in
+      written-contents bs (fileIn e n bs) 0 (bodiesStart e (length bs)) (joined bs) (ap (λ k. drop k (fileIn e n bs)) none ∙ drop-head) drop-contents (sym length-file)
 
   -- a file has the bodies that it was written from
-  pub file-bodies : bodies (fileOf n bs) ≡ bs
+  pub file-bodies : bodies (fileIn e n bs) ≡ bs
   file-bodies = file-contents .1
 
 -- ---- what is read is written again
 
 -- the contents from task j on, and the bodies from `at` on, are those of the bodies that are read
-pub read-contents : (left : ℕ) (s : List ℕ) (j at : ℕ) → Bytes s → contentsFit s left j at ≡ true → 8 + 4 * (j + left) ≤ length s
-    → (drop at s ≡ joined (bodiesFrom s left j)) × (take (4 * left) (drop (8 + 4 * j) s) ≡ contentsOf at (bodiesFrom s left j)) × (at + length (joined (bodiesFrom s left j)) ≡ length s)
+pub read-contents : (left : ℕ) (s : List ℕ) (j at : ℕ) → Bytes s → contentsFit s left j at ≡ true → start s + 4 * (j + left) ≤ length s
+    → (drop at s ≡ joined (bodiesFrom s left j)) × (take (4 * left) (drop (start s + 4 * j) s) ≡ contentsOf at (bodiesFrom s left j)) × (at + length (joined (bodiesFrom s left j)) ≡ length s)
 read-contents zero s j at h f l =
     let e : at ≡ length s = eqb-true at (length s) f in
     (rw e (drop-length s), refl, omega arith)
@@ -131,22 +151,22 @@ read-contents (suc left) s j at h f l =
     byte : (k : ℕ) → getD s k 0 < 256
     byte k = getD-all s h k
 
-    head4 : take (4 * suc left) (drop (8 + 4 * j) s)
-        ≡ getD s (8 + 4 * j) 0 ∷ getD s (8 + 4 * j + 1) 0 ∷ getD s (8 + 4 * j + 2) 0 ∷ getD s (8 + 4 * j + 2 + 1) 0 ∷ take (4 * left) (drop (8 + 4 * suc j) s)
-    head4 = four-bytes s (8 + 4 * j) (4 * left) (4 * suc left) (8 + 4 * suc j) (8 + 4 * j + 2 + 1) (omega arith) (omega arith) (omega arith) (omega arith)
+    head4 : take (4 * suc left) (drop (start s + 4 * j) s)
+        ≡ getD s (start s + 4 * j) 0 ∷ getD s (start s + 4 * j + 1) 0 ∷ getD s (start s + 4 * j + 2) 0 ∷ getD s (start s + 4 * j + 2 + 1) 0 ∷ take (4 * left) (drop (start s + 4 * suc j) s)
+    head4 = four-bytes s (start s + 4 * j) (4 * left) (4 * suc left) (start s + 4 * suc j) (start s + 4 * j + 2 + 1) (omega arith) (omega arith) (omega arith) (omega arith)
 
     go : offsetOf s j ≡ at
         → (drop (at + sizeOf s j) s ≡ joined (bodiesFrom s left (suc j)))
-        × (take (4 * left) (drop (8 + 4 * suc j) s) ≡ contentsOf (at + sizeOf s j) (bodiesFrom s left (suc j)))
+        × (take (4 * left) (drop (start s + 4 * suc j) s) ≡ contentsOf (at + sizeOf s j) (bodiesFrom s left (suc j)))
         × (at + sizeOf s j + length (joined (bodiesFrom s left (suc j))) ≡ length s)
-        → (drop at s ≡ joined (bodiesFrom s (suc left) j)) × (take (4 * suc left) (drop (8 + 4 * j) s) ≡ contentsOf at (bodiesFrom s (suc left) j))
+        → (drop at s ≡ joined (bodiesFrom s (suc left) j)) × (take (4 * suc left) (drop (start s + 4 * j) s) ≡ contentsOf at (bodiesFrom s (suc left) j))
         × (at + length (joined (bodiesFrom s (suc left) j)) ≡ length s)
     go o (d, c, e) =
         let z : length (bodyOf s j) ≡ sizeOf s j = rw o (length-take-le (sizeOf s j) (drop at s) (simp length-drop (omega arith))) in
         let b : bodyOf s j ≡ take (sizeOf s j) (drop at s) = ap (λ x. take (sizeOf s j) (drop x s)) o in (
           sym (take-append-drop (sizeOf s j) (drop at s)) ∙ ap (λ x. take (sizeOf s j) (drop at s) ++ x) (drop-drop (sizeOf s j) at s ∙ d) ∙ ap (λ x. x ++ joined (bodiesFrom s left (suc j))) (sym b),
-          head4 ∙ contents-bytes (getD s (8 + 4 * j) 0) (getD s (8 + 4 * j + 1) 0) (getD s (8 + 4 * j + 2) 0) (getD s (8 + 4 * j + 2 + 1) 0)
-              at (length (bodyOf s j)) (take (4 * left) (drop (8 + 4 * suc j) s)) (contentsOf (at + length (bodyOf s j)) (bodiesFrom s left (suc j)))
-              (byte (8 + 4 * j)) (byte (8 + 4 * j + 2)) (sym o) z (c ∙ ap (λ x. contentsOf (at + x) (bodiesFrom s left (suc j))) (sym z)),
+          head4 ∙ contents-bytes (getD s (start s + 4 * j) 0) (getD s (start s + 4 * j + 1) 0) (getD s (start s + 4 * j + 2) 0) (getD s (start s + 4 * j + 2 + 1) 0)
+              at (length (bodyOf s j)) (take (4 * left) (drop (start s + 4 * suc j) s)) (contentsOf (at + length (bodyOf s j)) (bodiesFrom s left (suc j)))
+              (byte (start s + 4 * j)) (byte (start s + 4 * j + 2)) (sym o) z (c ∙ ap (λ x. contentsOf (at + x) (bodiesFrom s left (suc j))) (sym z)),
           omega (arith, length-append (bodyOf s j) (joined (bodiesFrom s left (suc j)))),
         )

@@ -4,10 +4,10 @@ use mathlib.Core.Path.{_≡_, refl, sym, ap, _∙_}
 use mathlib.Core.Logic.{_≢_, _⊎_, inl, inr, _↔_}
 use mathlib.Core.Bool.{Bool, true, false, not, _||_, true≢false}
 use mathlib.Core.List.{List, [], _∷_}
-use Prim.Native.Nat.{ℕ, zero, suc, _+_, _*_, _≤_, _<_}
+use Prim.Native.Nat.{ℕ, zero, suc, _*_, _≤_, _<_}
 use native.Mathlib.Omega.{arith}
 use lib.Dec.{eqb, ltb}
-use lib.ListN.{length, getD, take}
+use lib.ListN.{length, getD, take, drop, replicate}
 use borrow.Author.Tests.{eqb-false, ne-eqb, ltb-true, ltb-false, lt-ltb, not-true}
 use Rattle.model.specs.Computed.{sameList}
 use Rattle.model.proofs.Membership.{or-cases, or-left, or-right, sameList-self, sameList-true}
@@ -15,10 +15,10 @@ use Rattle.body.proofs.BlockParts.{all-take, all-drop}
 use Rattle.project.specs.declared.answers.Check.{Check}
 use Rattle.project.specs.declared.answers.Check.the-variants.{Passed}
 use Rattle.project.specs.declared.answers.Check.the-variants.{Refused as Failed}
-use Rattle.project.specs.File.{mark, edition, cacheBlocks, taskCount, offsetOf, sizeOf, bodiesFrom, bodies}
-use Rattle.project.specs.Checks.{Fault3, Fault6, Fault7, body}
+use Rattle.project.specs.File.{mark, edition, cacheBlocks, taskCount, reserve, bodiesStart, offsetOf, sizeOf, bodiesFrom, bodies}
+use Rattle.project.specs.Checks.{longest, Fault6, Fault7, body}
 use Rattle.project.specs.Checklist.{Entry, Verdict, numbers, Agreeing, verdictOf}
-use Rattle.project.specs.Reading.{test3, countTest, contentsFit, test7, headChecks, contentsChecks, fileChecks, fileCheck, pickReading, readingOf}
+use Rattle.project.specs.Reading.{countTest, reserveTest, contentsFit, test7, headChecksUpTo, contentsChecks, fileChecksUpTo, fileChecks, fileCheckUpTo, pickReading, readingUpTo}
 use Rattle.project.specs.Filling.{pickFilling}
 use Rattle.project.specs.Verdict.{ReaderVerdict, FillingVerdict}
 use Rattle.project.proofs.Checklists.{verdict-exact, agreeing-append}
@@ -53,29 +53,33 @@ either-exact {A} {B} a b f g = (there, back)
     back (inl h) = or-left a b (f .1 h)
     back (inr h) = or-right a b (g .1 h)
 
--- ---- the checks on the head
-
-exact3 : (s : List ℕ) → (test3 s ≡ true) ↔ Fault3 s
-exact3 s = (there, λ f. go (sameList (take 4 s) mark) refl f)
+-- two different lists
+pub lists-exact : (a b : List ℕ) → (not (sameList a b) ≡ true) ↔ (a ≢ b)
+lists-exact a b = (there, λ f. go (sameList a b) refl f)
   where
-    there : test3 s ≡ true → Fault3 s
-    there e q = true≢false (sym (rw q (sameList-self mark)) ∙ not-true (sameList (take 4 s) mark) e)
+    there : not (sameList a b) ≡ true → a ≢ b
+    there e q = true≢false (sym (rw q (sameList-self b)) ∙ not-true (sameList a b) e)
 
-    go : (b : Bool) → sameList (take 4 s) mark ≡ b → Fault3 s → not b ≡ true
-    go true e f = absurd (f (sameList-true (take 4 s) mark e))
+    go : (x : Bool) → sameList a b ≡ x → (a ≢ b) → not x ≡ true
+    go true e f = absurd (f (sameList-true a b e))
     go false e f = refl
 
-head-agreeing : (s : List ℕ) → Agreeing (headChecks s)
-head-agreeing s =
+-- ---- the checks on the head
+
+head-agreeing : (e : ℕ) (s : List ℕ) → Agreeing (headChecksUpTo e s)
+head-agreeing e s =
+    let k = edition s in
     let n = cacheBlocks s in
     let t = taskCount s in
-    let six = either-exact (countTest t) (not (eqb (getD s 7 0) 0)) (outside-exact t 1 8 t) (differ-exact (getD s 7 0) 0) in
-    (outside-exact (length s) 8 7544 (length s), λ p2. (exact3 s, λ p3. (differ-exact (edition s) 1, λ p4. (outside-exact n 1 16 n, λ p5. (six, λ p6. tt)))))
+    let zeros = lists-exact (take (reserve k) (drop 8 s)) (replicate (reserve k) 0) in
+    let seven = either-exact (not (eqb (getD s 7 0) 0)) (reserveTest s) (differ-exact (getD s 7 0) 0) zeros in
+    let six = either-exact (countTest t) (not (eqb (getD s 7 0) 0) || reserveTest s) (outside-exact t 1 8 t) seven in
+    (outside-exact (length s) 8 (longest e) (length s), λ p2. (lists-exact (take 4 s) mark, λ p3. (outside-exact k 1 e k, λ p4. (outside-exact n 1 (16 * k) n, λ p5. (six, λ p6. tt)))))
 
 -- ---- the contents, where there are tasks
 
 exact7 : (s : List ℕ) → (Fault6 s → ⊥) → (test7 s ≡ true) ↔ Fault7 s
-exact7 s none = (there, λ f. go (contentsFit s (taskCount s) 0 (8 + 4 * taskCount s)) refl f)
+exact7 s none = (there, λ f. go (contentsFit s (taskCount s) 0 (bodiesStart (edition s) (taskCount s))) refl f)
   where
     some : 1 ≤ taskCount s
     some = at-least (ltb (taskCount s) 1) refl
@@ -85,9 +89,9 @@ exact7 s none = (there, λ f. go (contentsFit s (taskCount s) 0 (8 + 4 * taskCou
         at-least false e = ltb-false (taskCount s) 1 e
 
     there : test7 s ≡ true → Fault7 s
-    there e c = true≢false (sym (contents-exact s some .1 c) ∙ not-true (contentsFit s (taskCount s) 0 (8 + 4 * taskCount s)) e)
+    there e c = true≢false (sym (contents-exact s some .1 c) ∙ not-true (contentsFit s (taskCount s) 0 (bodiesStart (edition s) (taskCount s))) e)
 
-    go : (b : Bool) → contentsFit s (taskCount s) 0 (8 + 4 * taskCount s) ≡ b → Fault7 s → not b ≡ true
+    go : (b : Bool) → contentsFit s (taskCount s) 0 (bodiesStart (edition s) (taskCount s)) ≡ b → Fault7 s → not b ≡ true
     go true e f = absurd (f (contents-exact s some .0 e))
     go false e f = refl
 
@@ -99,16 +103,19 @@ bodies-bytes s h zero j i l = absurd (omega arith)
 bodies-bytes s h (suc left) j zero l = all-take _ (sizeOf s j) _ (all-drop _ (offsetOf s j) s h)
 bodies-bytes s h (suc left) j (suc i) l = bodies-bytes s h left (suc j) i (omega arith)
 
-pub file-agreeing : (s : List ℕ) → Bytes s → Agreeing (fileChecks s)
-file-agreeing s h =
-    agreeing-append (headChecks s) (contentsChecks s) (head-agreeing s)
+pub file-agreeing-up-to : (e : ℕ) (s : List ℕ) → Bytes s → Agreeing (fileChecksUpTo e s)
+file-agreeing-up-to e s h =
+    agreeing-append (headChecksUpTo e s) (contentsChecks s) (head-agreeing e s)
     (λ p. (exact7 s (p .1 .1 .1 .1 .0), λ p7. tasks-agreeing (bodies s) (bodies-bytes s h (taskCount s) 0)))
 
+pub file-agreeing : (s : List ℕ) → Bytes s → Agreeing (fileChecks s)
+file-agreeing s h = file-agreeing-up-to 1 s h
+
 -- what Reader answers, for every list of bytes
-pub reader-verdict : (s : List ℕ) → Bytes s → ReaderVerdict s (readingOf s)
-reader-verdict s h = go (fileCheck s) (verdict-exact (fileChecks s) (file-agreeing s h))
+pub reader-verdict : (e : ℕ) (s : List ℕ) → Bytes s → ReaderVerdict e s (readingUpTo e s)
+reader-verdict e s h = go (fileCheckUpTo e s) (verdict-exact (fileChecksUpTo e s) (file-agreeing-up-to e s h))
   where
-    go : (r : Check) → Verdict (fileChecks s) r → ReaderVerdict s (pickReading r (cacheBlocks s) (taskCount s))
+    go : (r : Check) → Verdict (fileChecksUpTo e s) r → ReaderVerdict e s (pickReading r (cacheBlocks s) (taskCount s))
     go Passed v = (v, refl, refl)
     go (Failed c a) v = v
 
@@ -121,5 +128,5 @@ filling-verdict es h = go (verdictOf es) (verdict-exact es h)
     go (Failed c a) v = v
 
 -- "Reader checks 2 to 10."; without 10 (document 02, Point 5)
-pub reader-order : (s : List ℕ) → numbers (fileChecks s) ≡ 2 ∷ 3 ∷ 4 ∷ 5 ∷ 6 ∷ 7 ∷ 8 ∷ 9 ∷ []
-reader-order s = refl
+pub reader-order : (e : ℕ) (s : List ℕ) → numbers (fileChecksUpTo e s) ≡ 2 ∷ 3 ∷ 4 ∷ 5 ∷ 6 ∷ 7 ∷ 8 ∷ 9 ∷ []
+reader-order e s = refl

@@ -1,10 +1,10 @@
 -- Where bodies end in a list of bytes: the layout of what the checks over tasks are handed. Definitions only.
 use mathlib.Core.Bool.{cond}
 use mathlib.Core.List.{List, [], _∷_, _++_}
-use Prim.Native.Nat.{ℕ, zero, suc, _+_, _*_, _-_, _≤_, _<_}
+use Prim.Native.Nat.{ℕ, zero, suc, _+_, _-_, _≤_, _<_}
 use lib.ListN.{length, getD, take, drop, replicate}
 use Rattle.body.specs.Layout.{Body}
-use Rattle.project.specs.File.{File, sizeOf}
+use Rattle.project.specs.File.{File, edition, bodiesStart, sizeOf}
 use Rattle.project.specs.Reading.{contentsFit}
 
 -- where the first body begins, and where each of the bodies of the contents from task j on ends
@@ -23,7 +23,7 @@ between s ends (suc left) j = take (getD ends (suc j) 0 - getD ends j 0) (drop (
 
 -- the ends of the bodies of a file of t tasks, if its contents are as they should be; else zeros
 abbrev pub endsOf : File → ℕ → List ℕ
-endsOf s t = cond (contentsFit s t 0 (8 + 4 * t)) (nine (endsFrom s t 0 (8 + 4 * t))) (replicate 9 0)
+endsOf s t = cond (contentsFit s t 0 (bodiesStart (edition s) t)) (nine (endsFrom s t 0 (bodiesStart (edition s) t))) (replicate 9 0)
 
 -- at most eight bodies, each of which ends where or after it begins, within the bytes
 pub record InOrder (s ends : List ℕ) (count : ℕ) : Type 0 where

@@ -12,15 +12,15 @@ use Rattle.project.specs.declared.answers.Writing.{Writing}
 use Rattle.project.specs.declared.answers.Writing.the-variants.{Written}
 use Rattle.project.specs.declared.answers.Writing.the-variants.{Refused as Unwritten}
 use Rattle.project.specs.Checklist.{Entry, AllPass, FirstFault}
-use Rattle.project.specs.File.{File, cacheBlocks, taskCount, fileOf}
-use Rattle.project.specs.Reading.{fileChecks}
-use Rattle.project.specs.Writing.{cut, writerChecks}
+use Rattle.project.specs.File.{File, cacheBlocks, taskCount, fileIn}
+use Rattle.project.specs.Reading.{fileChecksUpTo}
+use Rattle.project.specs.Writing.{cut, writerChecksIn}
 
 -- "A file is accepted when 2 to 10 pass.", and by document 02, Point 5, when 2 to 9 pass: "so 10 is never given any more"; "Reader answers n and
 -- t of a file."
-abbrev pub ReaderVerdict : File → Reading → Type 0
-ReaderVerdict s (Refused c a) = FirstFault (fileChecks s) c a
-ReaderVerdict s (Accepted n t) = AllPass (fileChecks s) × (n ≡ cacheBlocks s) × (t ≡ taskCount s)
+abbrev pub ReaderVerdict : ℕ → File → Reading → Type 0
+ReaderVerdict e s (Refused c a) = FirstFault (fileChecksUpTo e s) c a
+ReaderVerdict e s (Accepted n t) = AllPass (fileChecksUpTo e s) × (n ≡ cacheBlocks s) × (t ≡ taskCount s)
 
 -- a call that fills an area or a table, by the list of its checks
 abbrev pub FillingVerdict : List Entry → Filling → Type 0
@@ -28,6 +28,6 @@ FillingVerdict es (Unfilled c a) = FirstFault es c a
 FillingVerdict es Filled = AllPass es
 
 -- "it writes the packed file and answers its length"
-abbrev pub WriterVerdict : ℕ → List ℕ → List ℕ → List ℕ → Writing → Type 0
-WriterVerdict n s ls out (Unwritten c a) = FirstFault (writerChecks n s ls out) c a
-WriterVerdict n s ls out (Written l) = AllPass (writerChecks n s ls out) × (l ≡ length (fileOf n (cut s ls)))
+abbrev pub WriterVerdict : ℕ → ℕ → List ℕ → List ℕ → List ℕ → Writing → Type 0
+WriterVerdict k n s ls out (Unwritten c a) = FirstFault (writerChecksIn k n s ls out) c a
+WriterVerdict k n s ls out (Written l) = AllPass (writerChecksIn k n s ls out) × (l ≡ length (fileIn k n (cut s ls)))

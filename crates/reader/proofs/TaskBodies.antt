@@ -65,7 +65,7 @@ task-body s h j l =
       kept = not-false (keptOf (decode (bodyOf s j))) (rw at at fine);
       same = task-in (bodies s) j ∙ ap (λ (b : List ℕ). taskOf (decode b)) at;
       low = p .n-low;
-      high = p .n-high;
+      high = omega (arith, p .n-high, p .k-high);
     }
 
 -- a task of an accepted file is within the bounds

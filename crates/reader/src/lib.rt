@@ -8,6 +8,8 @@ ghost use lib.ListN.{length};
 ghost use Rattle.project.specs.File.{taskCount, offsetOf, sizeOf, bodyOf};
 ghost use Rattle.project.specs.Reading.{headCheck, readingOf};
 ghost use Rattle.project.specs.Bodies.{accepted, placeStart, placeLength, bodyPart};
+ghost use Rattle.project.specs.Tasks.{fileShape};
+use cache::blocks::CacheShape;
 use cache::numbers::byte_count;
 use cache::numbers::count;
 use cache::references::number_at;
@@ -15,6 +17,7 @@ use project::answers::Check;
 use project::answers::NO_TASK;
 use project::answers::Reading;
 use project::contents::contents;
+use project::head::contents_start;
 use project::head::head;
 use tasks::check_tasks;
 
@@ -50,6 +53,14 @@ pub fn read(file: &[u8]) -> Reading
     }
 }
 
+// The cache of an accepted file.
+pub fn file_shape(file: &[u8]) -> CacheShape
+    requires { ⌜ accepted (readingOf (now file)) ≡ true ⌝ }
+    ensures { λ r. ⌜ r ≡ fileShape (now (file .entry)) ⌝ }
+{
+    CacheShape { blocks: file[5] }
+}
+
 // Where a part of a file stands, and how long it is.
 pub struct BodyPlace {
     pub start: usize,
@@ -68,7 +79,7 @@ pub fn entry(file: &[u8], task: usize) -> BodyPlace
     ensures { λ r. ⌜ (r .start ≡ offsetOf (now (file .entry)) task) × (r .length ≡ sizeOf (now (file .entry)) task)
         × (r .start + r .length ≤ length (now (file .entry))) ⌝ }
 {
-    let at = 8 + 4 * task;
+    let at = contents_start(file) + 4 * task;
     BodyPlace {
         start: count(number_at(file, at)),
         length: count(number_at(file, at + 2)),
@@ -89,7 +100,7 @@ pub fn task_body(file: &[u8], task: usize) -> &[u8]
 
 // Where the body of a task stands; an empty part at the file's start if the file isn't accepted or the task isn't below t.
 pub fn place(file: &[u8], task: usize) -> BodyPlace
-    ensures { λ r. ⌜ (r .start ≡ placeStart (now (file .entry)) task) × (r .length ≡ placeLength (now (file .entry)) task) ⌝ }
+    ensures { λ r. ⌜ (r .start ≡ placeStart 1 (now (file .entry)) task) × (r .length ≡ placeLength 1 (now (file .entry)) task) ⌝ }
 {
     match read(file) {
         Reading::Refused { check: _, task: _ } => NOWHERE,
@@ -105,8 +116,8 @@ pub fn place(file: &[u8], task: usize) -> BodyPlace
 
 // Body: the body of a task as that part of the file, at its place there; an empty part at the file's start if the file isn't accepted or the task isn't below t.
 pub fn body(file: &[u8], task: usize) -> &[u8]
-    ensures { λ r. ⌜ (now r ≡ bodyPart (now (file .entry)) task)
-        × (r .ptr .0 ≡ file .entry .ptr .0) × (r .ptr .1 ≡ file .entry .ptr .1 + placeStart (now (file .entry)) task) ⌝ }
+    ensures { λ r. ⌜ (now r ≡ bodyPart 1 (now (file .entry)) task)
+        × (r .ptr .0 ≡ file .entry .ptr .0) × (r .ptr .1 ≡ file .entry .ptr .1 + placeStart 1 (now (file .entry)) task) ⌝ }
 {
     let found = place(file, task);
     let from = found.start;

@@ -5,7 +5,6 @@ use mathlib.Core.Bool.{Bool, true, false, _&&_}
 use mathlib.Core.List.{List}
 use Prim.Native.Nat.{ℕ}
 use borrow.Author.Tests.{not-false}
-use Rattle.cache.specs.declared.blocks.CacheShape.{CacheShape}
 use Rattle.model.proofs.Membership.{both-left, both-right}
 use Rattle.project.specs.declared.answers.Check.{Check}
 use Rattle.project.specs.declared.answers.Check.the-variants.{Passed}
@@ -15,7 +14,7 @@ use Rattle.project.specs.File.{taskCount}
 use Rattle.project.specs.Checklist.{noTask, andThen}
 use Rattle.project.specs.Reading.{fileChecks, fileCheck, readingOf}
 use Rattle.project.specs.Bodies.{accepted}
-use Rattle.project.specs.Tasks.{tasksOf, fileShape}
+use Rattle.project.specs.Tasks.{tasksOf}
 use Rattle.project.proofs.Checklists.{verdict-append}
 use Rattle.project.proofs.Accepted.{unless-passed, accepted-passed}
 use Rattle.reader.proofs.TaskBodies.{refused-check}
@@ -95,9 +94,6 @@ module _ (s sheet : List ℕ) {n u : ℕ} (e : readingOf s ≡ Accepted n u) whe
 
   pub tasks-of : {t : ℕ} → t ≡ u → t ≡ taskCount s
   tasks-of q = q ∙ accepted-passed s n u e .2
-
-  pub shape-of : _≡_ {A = CacheShape} (record { blocks = n }) (fileShape s)
-  shape-of = rw (accepted-passed s n u e .1)
 
   pub call-sheet : {c a : ℕ} → sheetCheck s sheet ≡ Failed c a → Refused c a ≡ replayingOf s sheet
   call-sheet {c} {a} q = sym (answer-by s sheet (Failed c a) (checks ∙ q))

@@ -16,6 +16,7 @@ use Rattle.model.specs.Runs.{Preemption, NotBefore, countAtEnd, lostAtEnd}
 use Rattle.model.proofs.Events.{Event}
 use Rattle.model.proofs.RunEvents.{positionOf, doneOf, allOf}
 use Rattle.model.proofs.Membership.{both-left, both-right}
+use Rattle.model.proofs.Width.{count-width, lost-width}
 use Rattle.body.proofs.WalksParts.{part-is}
 use Rattle.project.specs.File.{cacheBlocks, taskCount}
 use Rattle.project.specs.Tasks.{tasksOf, fileShape}
@@ -33,7 +34,6 @@ use Rattle.runs.proofs.PartTurns.{before-last}
 use Rattle.runs.proofs.Segments.{Rises, rises-all, done-le, segments, InPath, segments-all}
 use Rattle.runs.proofs.BothEvents.{bothEvents, events-refs, end-undisturbed, end-disturbed, end-lost}
 use Rattle.runs.proofs.BothLaws.{counts-less, counts-after}
-use Rattle.runs.proofs.Widths.{count-width, lost-width}
 use Rattle.replay.specs.declared.Replaying.{Replaying}
 use Rattle.replay.specs.declared.Replaying.the-variants.{Counted}
 use Rattle.replay.specs.Replay.{runIn, countedIn, Passed13}

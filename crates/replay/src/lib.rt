@@ -5,13 +5,13 @@ mod counts;
 ghost use mathlib.Core.Path.{_≡_};
 ghost use Rattle.project.specs.Reading.{headCheck};
 ghost use Rattle.replay.specs.Replay.{replayingOf};
-use cache::blocks::CacheShape;
 use cache::numbers::byte_count;
 use checks::check_sheet;
 use counts::run_counts;
 use project::answers::Check;
 use project::answers::Reading;
 use project::head::head;
+use reader::file_shape;
 use reader::read_bodies;
 
 // What Replay answers: the misses of the run's own references without and with the preemptions, and the lost hits, which are own references
@@ -35,9 +35,9 @@ fn replay_bodies(file: &[u8], sheet: &[u16]) -> Replaying
 {
     match read_bodies(file) {
         Reading::Refused { check, task } => Replaying::Refused { check, task },
-        Reading::Accepted { n, t } => match check_sheet(file, sheet, byte_count(t)) {
+        Reading::Accepted { n: _, t } => match check_sheet(file, sheet, byte_count(t)) {
             Check::Refused { check, task } => Replaying::Refused { check, task },
-            Check::Passed => run_counts(file, sheet, CacheShape { blocks: n }),
+            Check::Passed => run_counts(file, sheet, file_shape(file)),
         },
     }
 }

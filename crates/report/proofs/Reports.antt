@@ -48,7 +48,7 @@ module _ (s area table : List ℕ) (ha : length area ≡ 24832) (ht : length tab
     passed = filled-only (tableCheck 16 s area table) (sym told ∙ e)
 
     -- the file is accepted
-    pub filled-passing : Passing s
+    pub filled-passing : Passing 1 s
     unfolding checksOf
     filled-passing = passing s (then-passed (fileCheck s) (firstFull (fileCacheIn 16 s) 0 (tasksOf s)) (sym (later-parts 16 s) ∙ sym checks ∙ passed) .0)
 

@@ -4,6 +4,7 @@ use mathlib.Core.Path.{_≡_, refl, sym, ap, _∙_}
 use mathlib.Core.Bool.{Bool, true, false, cond}
 use mathlib.Core.List.{List, [], _∷_}
 use Prim.Native.Nat.{ℕ, zero, suc, _<_}
+use native.Mathlib.Nat.{not-suc-le-zero}
 use native.Mathlib.Omega.{arith}
 use lib.Dec.{eqb}
 use lib.ListN.{length}
@@ -20,12 +21,11 @@ length-overlay [] over = refl
 length-overlay (x ∷ row) [] = refl
 length-overlay (x ∷ row) (y ∷ over) = ap suc (length-overlay row over)
 
-held-overlay : (row over : List ℕ) (c : ℕ) → length row ≡ length over → held (overlay row over) c ≡ cond (eqb (held over c) nothing) (held row c) (held over c)
-held-overlay [] [] c e = rw (eq-eqb nothing nothing refl)
-held-overlay [] (y ∷ over) c e = absurd (omega arith)
-held-overlay (x ∷ row) [] c e = absurd (omega arith)
-held-overlay (x ∷ row) (y ∷ over) zero e = refl
-held-overlay (x ∷ row) (y ∷ over) (suc c) e = held-overlay row over c (omega arith)
+pub held-overlay : (row over : List ℕ) (c : ℕ) → c < length row → held (overlay row over) c ≡ cond (eqb (held over c) nothing) (held row c) (held over c)
+held-overlay [] over c l = absurd (not-suc-le-zero l)
+held-overlay (x ∷ row) [] c l = rw (eq-eqb nothing nothing refl)
+held-overlay (x ∷ row) (y ∷ over) zero l = refl
+held-overlay (x ∷ row) (y ∷ over) (suc c) l = held-overlay row over c (omega arith)
 
 module _ (k : Cache) where
   -- an overlaid row is known by its places
@@ -33,7 +33,7 @@ module _ (k : Cache) where
       → ((c : ℕ) → c < k .width → cond (eqb (held over c) nothing) (held row c) (held over c) ≡ held new c) → overlay row over ≡ new
   overlaid row over new r o n h =
       ext-getD nothing (overlay row over) new (length-overlay row over ∙ r ∙ sym n)
-      (λ c l. held-overlay row over c (r ∙ sym o) ∙ h c (rw (length-overlay row over, r) at l))
+      (λ c l. let inside : c < length row = rw (length-overlay row over) at l in held-overlay row over c inside ∙ h c (rw r at inside))
 
   pub overlay-empty : (row : List ℕ) → length row ≡ k .width → overlay row (emptyRow k) ≡ row
   overlay-empty row e = overlaid row (emptyRow k) row e (length-emptyRow k) e (λ c l. rw (eq-eqb (held (emptyRow k) c) nothing (held-emptyRow k c l)))

@@ -7,31 +7,28 @@ use Prim.Native.Nat.{ℕ, suc, _+_, _*_, _/_, _<_, _≤_}
 use native.Mathlib.Numerals.{add-one}
 use native.Mathlib.Omega.{arith}
 use lib.Dec.{eqb}
-use lib.ListN.{length, getD, drop, set, drop-of-length-le}
+use lib.ListN.{length, drop, drop-of-length-le}
 use lib.Seq.{drop-cons}
 use borrow.Author.Tests.{eq-eqb, ne-eqb}
 use Rattle.cache.specs.Sum.{bit}
 use Rattle.cache.specs.References.{numberAt, numbers}
-use Rattle.cache.specs.Cache.{Cache, hits}
-use Rattle.cache.proofs.Cells.{cell-held}
+use Rattle.cache.specs.Cache.{Cache, held, hits, withReference}
 use Rattle.cache.proofs.NumberLaws.{length-numbers, getD-numbers}
 use Rattle.model.specs.Runs.{RowCount, ownReferences}
 use Rattle.runs.specs.Running.{rowCount, withOwn}
 use Rattle.runs.proofs.PathCounts.{own-bound}
 
--- ---- one reference: c is the place of m, and v is m
+-- ---- one reference: `was` is what its place held, v is m, and `next` the row after it
 
-module _ (k : Cache) (m old : ℕ) (cells : List ℕ) {c v : ℕ} (inside : c < length cells) (ec : c ≡ k .place m) (ev : v ≡ m) where
-  seen : (b : Bool) → eqb (getD cells c 0) v ≡ b → hits k cells m ≡ b
-  seen b e = rw (← ec, ← ev, ← (cell-held cells c inside)) e
+module _ (k : Cache) (m old : ℕ) (cells : List ℕ) {was v : ℕ} {next : List ℕ} (ew : was ≡ held cells (k .place m)) (ev : v ≡ m) (en : next ≡ withReference k cells m) where
+  seen : (b : Bool) → eqb was v ≡ b → hits k cells m ≡ b
+  seen b e = sym (ap₂ eqb ew ev) ∙ e
 
-  pub reference-missed : {new : ℕ} → (getD cells c 0 ≡ v → ⊥) → new ≡ old + 1 → rowCount (set cells c v) new ≡ withOwn k (rowCount cells old) m
-  reference-missed h e =
-      ap₂ rowCount (ap₂ (set cells) ec ev) (e ∙ sym (ap (λ b. old + bit (not b)) (seen _ (ne-eqb (getD cells c 0) v h))))
+  pub reference-missed : {new : ℕ} → (was ≡ v → ⊥) → new ≡ old + 1 → rowCount next new ≡ withOwn k (rowCount cells old) m
+  reference-missed h e = ap₂ rowCount en (e ∙ sym (ap (λ b. old + bit (not b)) (seen _ (ne-eqb was v h))))
 
-  pub reference-hit : {new : ℕ} → getD cells c 0 ≡ v → new ≡ old → rowCount (set cells c v) new ≡ withOwn k (rowCount cells old) m
-  reference-hit h e =
-      ap₂ rowCount (ap₂ (set cells) ec ev) (e ∙ sym (ap (λ b. old + bit (not b)) (seen _ (eq-eqb (getD cells c 0) v h)) ∙ omega arith))
+  pub reference-hit : {new : ℕ} → was ≡ v → new ≡ old → rowCount next new ≡ withOwn k (rowCount cells old) m
+  reference-hit h e = ap₂ rowCount en (e ∙ sym (ap (λ b. old + bit (not b)) (seen _ (eq-eqb was v h)) ∙ omega arith))
 
 -- it hits just where the count is the one before
 pub hit-by-count : (k : Cache) (m old : ℕ) (cells : List ℕ) {next : List ℕ} {new : ℕ} → rowCount next new ≡ withOwn k (rowCount cells old) m → eqb new old ≡ hits k cells m

@@ -1,4 +1,3 @@
-pub mod Widths
 pub mod PartLaws
 pub mod PartTurns
 pub mod Segments

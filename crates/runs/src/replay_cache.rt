@@ -10,6 +10,7 @@ ghost use Rattle.runs.specs.Running.{rowCount, held, withOwn};
 use cache::blocks::CacheShape;
 use cache::blocks::MemoryBlock;
 use cache::references::number_at;
+use cache::row::Row;
 
 // A cache row and the misses so far.
 pub struct ReplayCache {
@@ -22,10 +23,10 @@ pub fn referred(cells: &mut [u16; 32], misses: u32, m: MemoryBlock, shape: Cache
     requires { ⌜ Holds 32 shape × (misses + 1 < 2 ^ 32) × (length (now cells) ≡ 32) ⌝ }
     ensures { λ r. ⌜ rowCount (now (cells .exit)) r ≡ withOwn (shaped 32 shape) (rowCount (now (cells .entry)) misses) (m .0) ⌝ }
 {
-    let c = m.cache_block(shape).index();
+    let c = m.cache_block(shape);
+    let old = Row::held(cells, c);
+    Row::with_reference(cells, c, m);
     let v = m.number();
-    let old = cells[c];
-    cells[c] = v;
     if old == v { misses } else { misses + 1 }
 }
 

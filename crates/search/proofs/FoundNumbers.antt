@@ -27,7 +27,7 @@ use Rattle.model.proofs.Paths.{path-last}
 use Rattle.model.proofs.Sorted.{sorted-has, sorted-only, reaching-rows, living-rows}
 use Rattle.model.proofs.Entering.{Enters, EntersFrom, enters-first, enters-on, enters-cases, done-all, at-point, live-point, point-before, point-after, point-inside, point-reaches, point-lives}
 use Rattle.model.proofs.Most.{most-unique, unmasked-exact, pair-is}
-use Rattle.model.proofs.StatesWidth.{lives-long}
+use Rattle.model.proofs.Policies.{lives-long}
 use Rattle.body.specs.Jumps.{jumpSets}
 use Rattle.body.proofs.BlockParts.{all-drop}
 use Rattle.body.proofs.JumpLaws.{jump-has, jump-only}

@@ -17,7 +17,8 @@ use Rattle.model.specs.Computed.{sameList, reaching, living}
 use Rattle.model.proofs.Membership.{or-left, sameList-self, each-of}
 use Rattle.model.proofs.Paths.{path-first, path-last}
 use Rattle.model.proofs.Sorted.{reaching-rows, living-rows}
-use Rattle.model.proofs.Width.{Behind, reaches-narrow, lives-narrow}
+use Rattle.model.proofs.Wider.{Behind, reaches-narrow, lives-narrow}
+use Rattle.model.proofs.Width.{wider}
 use Rattle.rows.specs.Rows.{partOf, flat}
 use Rattle.rows.proofs.Parts.{after-first, row-within}
 use Rattle.project.specs.declared.answers.Filling.the-variants.{Filled}
@@ -41,7 +42,7 @@ module _ (w n : ℕ) (low : 0 < n) (high : n ≤ w) where
   whole : w ≡ n + (w - n)
   whole = omega arith
 
-  behind : (P : List ℕ → Type 0) (row : List ℕ) → Behind n low (w - n) P row → Beyond w n row
+  behind : (P : List ℕ → Type 0) (row : List ℕ) → Behind (wider n low (w - n)) P row → Beyond w n row
   behind P row h = (
     ap length (h .same) ∙ length-append (h .inner) (replicate (w - n) nothing) ∙ omega (arith, h .long, length-replicate (w - n) nothing),
     λ c l m. let e : c ≡ length (h .inner) + (c - n) = omega (arith, h .long) in
@@ -51,11 +52,11 @@ module _ (w n : ℕ) (low : 0 < n) (high : n ≤ w) where
 
   reaches-beyond : (t : Task) (b : ℕ) (row : List ℕ) → Reaches (wide w n) t b row → Beyond w n row
   reaches-beyond t b row r =
-      behind (Reaches (wide n n) t b) row (reaches-narrow n low (w - n) t b row (subst (λ (v : ℕ). Reaches (wide v n) t b row) whole r))
+      behind (Reaches (wide n n) t b) row (reaches-narrow (wider n low (w - n)) t b row (subst (λ (v : ℕ). Reaches (wide v n) t b row) whole r))
 
   lives-beyond : (t : Task) (b : ℕ) (row : List ℕ) → Lives (wide w n) t b row → Beyond w n row
   lives-beyond t b row r =
-      behind (Lives (wide n n) t b) row (lives-narrow n low (w - n) t b row (subst (λ (v : ℕ). Lives (wide v n) t b row) whole r))
+      behind (Lives (wide n n) t b) row (lives-narrow (wider n low (w - n)) t b row (subst (λ (v : ℕ). Lives (wide v n) t b row) whole r))
 
 -- ---- a block's part, and where it stands
 

@@ -20,6 +20,7 @@ use graphs::task_rows::task_rows;
 use project::answers::Filling;
 use project::answers::NO_TASK;
 use project::answers::Reading;
+use reader::file_shape;
 use reader::read;
 use reader::task_body;
 use sort::fill_with;
@@ -73,9 +74,9 @@ pub fn states(file: &[u8], task: usize, area: &mut [u16]) -> Filling
     }
     match read(file) {
         Reading::Refused { check, task: named } => refuse(check, named, area),
-        Reading::Accepted { n, t } => {
+        Reading::Accepted { n: _, t } => {
             if task < t as usize {
-                return fill_task(file, CacheShape { blocks: n }, 16, task, area);
+                return fill_task(file, file_shape(file), 16, task, area);
             }
             refuse(15, NO_TASK, area)
         }

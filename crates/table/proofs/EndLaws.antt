@@ -13,8 +13,6 @@ use lib.Seq.{getD-set-same, getD-set-other, length-take-le, take-take}
 use borrow.Author.Tests.{eqb-true, eqb-false, ltb-true, ltb-false}
 use borrow.Rule.Slice.PartMut.{putMid}
 use Rattle.cache.specs.Cache.{Cache}
-use Rattle.cache.specs.Sets.{bits}
-use Rattle.cache.proofs.Masks.{bits-none}
 use Rattle.model.specs.Tasks.{Task, end, task}
 use Rattle.model.specs.Computed.{sorted, reaching}
 use Rattle.rows.specs.Rows.{Width, rowsOf, partOf}
@@ -22,9 +20,8 @@ use Rattle.rows.proofs.Parts.{after-first, row-within, replaced-length, replace
 use Rattle.gather.specs.Gathered.{GatheredRows}
 use Rattle.graphs.specs.TaskRows.{KindRows}
 use Rattle.area.proofs.Areas.{few-rows}
-use Rattle.pairs.specs.Pairs.{someUses, endsOf}
-use Rattle.pairs.proofs.ReplacedSets.{lent-long}
-use Rattle.table.specs.Found.{Few, AllEnds, TaskEnds, EndsFound, NoOthers}
+use Rattle.pairs.specs.Pairs.{Joined, endsOf, oneOf, endsLength}
+use Rattle.table.specs.Found.{Few, AllEnds, TaskEnds, OneStored, EndsFound, NoOthers}
 
 -- ---- rows that were copied
 
@@ -116,9 +113,56 @@ module _ (k : Cache) (t : Task) (rows counts ends : List ℕ) {full : Bool} (lon
           at-end : sorted (rowsOf (k .width) count (partOf (k .width) rows last)) ≡ reaching k t (end t)
           at-end = rw (g .count) (g .list ∙ ap (reaching k t) (ap (λ (x : ℕ). x - 1) e))
 
+-- ---- a row for the end rows of a task is stored
+
+-- the end rows of task j were lent as a part
+pub part-long : (w j : ℕ) (ends : List ℕ) → j < 8 → length ends ≡ endsLength w → length (take (32 * w * j + 32 * w - 32 * w * j) (drop (32 * w * j) ends)) ≡ 32 * w
+part-long w j ends h long =
+    let s : 32 * w * j + 32 * w - 32 * w * j ≡ 32 * w = omega arith in
+    rw s (length-take-le (32 * w) (drop (32 * w * j) ends) (rw length-drop (omega (arith, row-within (32 * w) j 8 h, long))))
+
+module _ (w j count : ℕ) (old one : List ℕ) (inside : j < 8) (long : length old ≡ endsLength w) where
+  abbrev place : ℕ
+  place = 8 * (32 * w) + w * j
+
+  abbrev first-end : ℕ
+  first-end = 32 * w * j
+
+  place-fits : place + w ≤ length old
+  place-fits = omega (arith, long, row-within w j 8 inside)
+
+  pub one-stored : {cells : ℕ} → Joined w (rowsOf w count (take (first-end + 32 * w - first-end) (drop first-end old))) one cells
+      → OneStored w j count old (putMid place (place + w - place) old one) cells
+  one-stored is =
+      record {
+        long = ap length back ∙ replaced-length old one place w place-fits wide;
+        parts = λ i l. ap (λ (x : List ℕ). take (32 * w) (drop (32 * w * i) x)) back
+            ∙ replaced-before old one place w place-fits wide (32 * w) (32 * w * i) (omega (arith, row-within (32 * w) i 8 l));
+        others = λ i l d. ap (λ (x : List ℕ). take w (drop (8 * (32 * w) + w * i) x)) back ∙ other i d (ltb i j) refl;
+        joined = rw (ap (λ (x : List ℕ). take w (drop place x)) back ∙ replaced-here old one place w place-fits wide) (rw part at is);
+      }
+    where
+      wide : length one ≡ w
+      wide = is .row .wide
+
+      back : putMid place (place + w - place) old one ≡ take place old ++ (one ++ drop (place + w) old)
+      back = lent-back place w old one
+
+      part : take (first-end + 32 * w - first-end) (drop first-end old) ≡ partOf w old j
+      part =
+          let s : first-end + 32 * w - first-end ≡ 32 * w = omega arith in
+          ap (λ (n : ℕ). take n (drop first-end old)) s
+
+      other : (i : ℕ) → i ≢ j → (b : Bool) → ltb i j ≡ b
+          → take w (drop (8 * (32 * w) + w * i) (take place old ++ (one ++ drop (place + w) old))) ≡ take w (drop (8 * (32 * w) + w * i) old)
+      other i d true e = replaced-before old one place w place-fits wide w (8 * (32 * w) + w * i) (omega (arith, row-within w i j (ltb-true i j e)))
+      other i d false e =
+          let after : j < i = omega (arith, ltb-false i j e, d) in
+          replaced-after old one place w place-fits wide w (8 * (32 * w) + w * i) (omega (arith, row-within w j i after))
+
 -- ---- the end rows of each task in a part of their own
 
-module _ (k : Cache) (ts : List Task) (j : ℕ) (ends counts unions part : List ℕ) (count : ℕ) (inside : j < 8) (so-far : EndsFound k ts j ends counts unions)
+module _ (k : Cache) (ts : List Task) (j : ℕ) (ends counts mixed part : List ℕ) (count : ℕ) (inside : j < 8) (so-far : EndsFound k ts j ends counts mixed)
     {rows : List ℕ} (new : TaskEnds k (task ts j) rows part count) where
   abbrev w : ℕ
   w = k .width
@@ -138,17 +182,8 @@ module _ (k : Cache) (ts : List Task) (j : ℕ) (ends counts unions part : List 
   fits : at + 32 * w ≤ length ends
   fits = omega (arith, so-far .room .long, row-within (32 * w) j 8 inside)
 
-  pub grown-ends : length grown ≡ 8 * (32 * w)
+  pub grown-ends : length grown ≡ endsLength w
   grown-ends = ap length back ∙ replaced-length ends part at (32 * w) fits (new .endsLong) ∙ so-far .room .long
-
-  -- what is lent of them next are the end rows found
-  lent-again : take (at + 32 * w - at) (drop at grown) ≡ part
-  lent-again =
-      let s : at + 32 * w - at ≡ 32 * w = omega arith in
-      ap₂ (λ (n : ℕ) (l : List ℕ). take n (drop at l)) s back ∙ replaced-here ends part at (32 * w) fits (new .endsLong)
-
-  pub lent-again-long : length (take (at + 32 * w - at) (drop at grown)) ≡ 32 * w
-  lent-again-long = lent-long (32 * w) j 8 grown inside grown-ends
 
   few-more : (i : ℕ) → i < 8 → getD more i 0 ≤ 32
   few-more i l = go (eqb i j) refl
@@ -174,39 +209,49 @@ module _ (k : Cache) (ts : List Task) (j : ℕ) (ends counts unions part : List 
           let after : j < i = omega (arith, ltb-false i j e, d) in
           replaced-after ends part at (32 * w) fits (new .endsLong) (32 * w) (32 * w * i) (omega (arith, row-within (32 * w) j i after))
 
-  -- with the union of their used sets
-  pub ends-turn : {union : ℕ} → union ≡ bits w (someUses (rowsOf w count (take (at + 32 * w - at) (drop at grown)))) → EndsFound k ts (j + 1) grown more (set unions j union)
-  ends-turn {union} is =
-      record {
-        room =
-            record {
-              width = so-far .room .width;
-              long = grown-ends;
-              many = length-set counts j count ∙ so-far .room .many;
-              each = length-set unions j union ∙ so-far .room .each;
-              few = few-more;
-              joined = λ i l. joined i l (eqb i j) refl;
-              inside = omega arith;
-            };
-        found = λ i l f. found i l f (eqb i j) refl;
-      }
-    where
-      joined : (i : ℕ) → i < 8 → (b : Bool) → eqb i j ≡ b → getD (set unions j union) i 0 ≡ bits w (someUses (endsOf w grown more i))
-      joined i l true e =
-          rw (eqb-true i j e)
-          (getD-set-same unions j union 0 (omega (arith, so-far .room .each))
-          ∙ is
-          ∙ ap (λ (x : List ℕ). bits w (someUses (rowsOf w count x))) lent-again
-          ∙ ap (λ (fs : List (List ℕ)). bits w (someUses fs)) (sym here))
-      joined i l false e =
-          let d = eqb-false i j e in
-          getD-set-other unions j i union 0 d ∙ so-far .room .joined i l ∙ ap (λ (fs : List (List ℕ)). bits w (someUses fs)) (sym (elsewhere i d))
+  -- with a row for them
+  module _ (after : List ℕ) (cells : ℕ) (stored : OneStored w j count grown after cells) where
+    kept : (i : ℕ) → i < 8 → endsOf w after more i ≡ endsOf w grown more i
+    kept i l = ap (rowsOf w (getD more i 0)) (stored .parts i l)
 
-      found : (i : ℕ) → i < j + 1 → Few k (task ts i) → (b : Bool) → eqb i j ≡ b → AllEnds k (task ts i) (endsOf w grown more i)
-      found i l f true e = rw (eqb-true i j e, here) (new .found (rw (eqb-true i j e) at f))
-      found i l f false e =
-          let d = eqb-false i j e in
-          rw (elsewhere i d) (so-far .found i (omega arith) f)
+    -- the row for any other task stays
+    one-elsewhere : (i : ℕ) → i < 8 → i ≢ j → oneOf w after i ≡ oneOf w ends i
+    one-elsewhere i l d =
+        stored .others i l d
+        ∙ ap (λ (x : List ℕ). take w (drop (8 * (32 * w) + w * i) x)) back
+        ∙ replaced-after ends part at (32 * w) fits (new .endsLong) w (8 * (32 * w) + w * i) (omega (arith, row-within (32 * w) j 8 inside))
+
+    pub ends-turn : EndsFound k ts (j + 1) after more (set mixed j cells)
+    ends-turn =
+        record {
+          room =
+              record {
+                width = so-far .room .width;
+                long = stored .long ∙ grown-ends;
+                many = length-set counts j count ∙ so-far .room .many;
+                each = length-set mixed j cells ∙ so-far .room .each;
+                few = few-more;
+                joined = λ i l. joined i l (eqb i j) refl;
+                inside = omega arith;
+              };
+          found = λ i l f. rw (kept i (omega arith)) (found i l f (eqb i j) refl);
+        }
+      where
+        joined : (i : ℕ) → i < j + 1 → (b : Bool) → eqb i j ≡ b → Joined w (endsOf w after more i) (oneOf w after i) (getD (set mixed j cells) i 0)
+        joined i l true e =
+            let mine : endsOf w after more j ≡ rowsOf w count (partOf w grown j) =
+            kept j inside ∙ ap (λ (n : ℕ). rowsOf w n (partOf w grown j)) (getD-set-same counts j count 0 (omega (arith, so-far .room .many))) in
+            rw (eqb-true i j e, mine, getD-set-same mixed j cells 0 (omega (arith, so-far .room .each))) (stored .joined)
+        joined i l false e =
+            let d = eqb-false i j e in
+            let low : i < 8 = omega arith in
+            rw (kept i low, elsewhere i d, one-elsewhere i low d, getD-set-other mixed j i cells 0 d) (so-far .room .joined i (omega (arith, d)))
+
+        found : (i : ℕ) → i < j + 1 → Few k (task ts i) → (b : Bool) → eqb i j ≡ b → AllEnds k (task ts i) (endsOf w grown more i)
+        found i l f true e = rw (eqb-true i j e, here) (new .found (rw (eqb-true i j e) at f))
+        found i l f false e =
+            let d = eqb-false i j e in
+            rw (elsewhere i d) (so-far .found i (omega arith) f)
 
   pub others-turn : NoOthers k ts j counts → NoOthers k ts (j + 1) more
   others-turn others i d = go (eqb i j) refl
@@ -225,9 +270,9 @@ getD-zeros (suc k) zero = refl
 getD-zeros (suc k) (suc i) = getD-zeros k i
 
 -- no end rows yet
-pub ends-none : (k : Cache) (ts : List Task) {ends counts unions : List ℕ} → Width (k .width) → length ends ≡ 8 * (32 * k .width) → counts ≡ replicate 8 0
-    → unions ≡ replicate 8 0 → EndsFound k ts 0 ends counts unions
-ends-none k ts {ends} {counts} {unions} width long zeros none =
+pub ends-none : (k : Cache) (ts : List Task) {ends counts mixed : List ℕ} → Width (k .width) → length ends ≡ endsLength (k .width) → counts ≡ replicate 8 0
+    → mixed ≡ replicate 8 0 → EndsFound k ts 0 ends counts mixed
+ends-none k ts {ends} {counts} {mixed} width long zeros none =
     record {
       room =
           record {
@@ -236,7 +281,7 @@ ends-none k ts {ends} {counts} {unions} width long zeros none =
             many = ap length zeros ∙ length-replicate {A = ℕ} 8 0;
             each = ap length none ∙ length-replicate {A = ℕ} 8 0;
             few = λ j l. rw (zeros, getD-zeros 8 j) (omega arith);
-            joined = λ j l. rw (none, zeros, getD-zeros 8 j) (sym (bits-none (k .width) (λ c. false) (λ c h. refl)));
+            joined = λ j l. absurd (not-suc-le-zero l);
             inside = omega arith;
           };
       found = λ j l. absurd (not-suc-le-zero l);

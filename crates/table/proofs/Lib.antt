@@ -3,3 +3,4 @@ pub mod NumberLaws
 pub mod TableLaws
 pub mod Answers
 pub mod TableVerdicts
+pub mod Entries

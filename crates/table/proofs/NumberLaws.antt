@@ -57,10 +57,10 @@ module _ (k : Cache) (t : Task) {area reached lived : List ℕ} {full : Bool} (h
           rw second
           (gathered-memory (living k t) width (h .rows .liveLong) (h .rows .liveMany) (or-false-right (tooMany (reaching k t) 24) (tooMany (living k t) 24) none) (h .rows .lived few))
 
-      pub numbers-few : (ts : List Task) (tasks : ℕ) {ends counts unions old new : List ℕ} → InBounds t → length old ≡ 8 → EndsFound k ts tasks ends counts unions
+      pub numbers-few : (ts : List Task) (tasks : ℕ) {ends counts mixed old new : List ℕ} → InBounds t → length old ≡ 8 → EndsFound k ts tasks ends counts mixed
           → Met (taskMost k t (heldRows (k .width) rows reached) (heldRows (k .width) live lived) (length t) 0) (k .width) ends counts tasks old new
           → NumbersFound k ts tasks t old new false
-      numbers-few ts tasks {ends} {counts} {unions} {old} {new} bounds long found met =
+      numbers-few ts tasks {ends} {counts} {mixed} {old} {new} bounds long found met =
           record {
             long = met .long ∙ long;
             answer = sym none;

@@ -26,7 +26,7 @@ use Rattle.table.specs.Table.{fullChecks, tableChecks, tableAnswer}
 
 module _ (w : ℕ) (wide-enough : 16 ≤ w) (s : List ℕ) (h : Bytes s) (area table : List ℕ) where
   -- check 11 of the tasks of an accepted file
-  exact11 : AllPass (fileChecks s) → (j : ℕ) → j < length (tasksOf s) → (test11 (fileCacheIn w s) (task (tasksOf s) j) ≡ true) ↔ Fault11 (fileCache s) (task (tasksOf s) j)
+  pub exact11 : AllPass (fileChecks s) → (j : ℕ) → j < length (tasksOf s) → (test11 (fileCacheIn w s) (task (tasksOf s) j) ≡ true) ↔ Fault11 (fileCache s) (task (tasksOf s) j)
   exact11 all j inside =
       let ok = passing-accepted s (passed-computed (fileChecks s) (file-agreeing s h) all) in
       let l = rw (tasks-long s) at inside in

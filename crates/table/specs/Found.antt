@@ -1,5 +1,6 @@
 -- What Table finds on its way: the end rows of each task, and the numbers of a task against each task. Definitions only.
 use mathlib.Core.Path.{_≡_}
+use mathlib.Core.Logic.{_≢_}
 use mathlib.Core.Bool.{Bool, true, false}
 use mathlib.Core.List.{List}
 use Prim.Native.Nat.{ℕ, _*_, _≤_, _<_, max}
@@ -7,10 +8,10 @@ use lib.ListN.{length, getD}
 use Rattle.cache.specs.Cache.{Cache}
 use Rattle.model.specs.Tasks.{Task, end, task}
 use Rattle.model.specs.Computed.{sorted, reaching, pairNumber}
-use Rattle.rows.specs.Rows.{rowsOf, kindLength}
+use Rattle.rows.specs.Rows.{rowsOf, partOf, kindLength}
 use Rattle.gather.specs.Graph.{tooMany}
 use Rattle.graphs.specs.TaskRows.{test11}
-use Rattle.pairs.specs.Pairs.{endsOf, EndRows}
+use Rattle.pairs.specs.Pairs.{Joined, endsOf, oneOf, EndRows}
 
 -- no block of the task has more than 32 reaching states
 abbrev pub Few : Cache → Task → Type 0
@@ -28,9 +29,16 @@ pub record TaskEnds (k : Cache) (t : Task) (rows ends : List ℕ) (count : ℕ) 
   pub found : Few k t → AllEnds k t (rowsOf (k .width) count ends)
   pub none : (Few k t → ⊥) → count ≡ 0
 
+-- what joining the `count` end rows of task j leaves: a row for them among such rows, where all else stays
+pub record OneStored (w j count : ℕ) (old new : List ℕ) (mixed : ℕ) : Type 0 where
+  pub long : length new ≡ length old
+  pub parts : (i : ℕ) → i < 8 → partOf w new i ≡ partOf w old i
+  pub others : (i : ℕ) → i < 8 → i ≢ j → oneOf w new i ≡ oneOf w old i
+  pub joined : Joined w (rowsOf w count (partOf w old j)) (oneOf w new j) mixed
+
 -- the end rows of the first `tasks` tasks, of each that has few reaching states
-pub record EndsFound (k : Cache) (ts : List Task) (tasks : ℕ) (ends counts unions : List ℕ) : Type 0 where
-  pub room : EndRows (k .width) ends counts unions tasks
+pub record EndsFound (k : Cache) (ts : List Task) (tasks : ℕ) (ends counts mixed : List ℕ) : Type 0 where
+  pub room : EndRows (k .width) ends counts mixed tasks
   pub found : (j : ℕ) → j < tasks → Few k (task ts j) → AllEnds k (task ts j) (endsOf (k .width) ends counts j)
 
 -- and none of any other

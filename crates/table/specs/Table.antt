@@ -1,10 +1,11 @@
 -- Document 01, "Calls" and "Numbers of the checks": Table, for rows of w places. Definitions only.
+use mathlib.Core.Path.{_≡_}
 use mathlib.Core.Logic.{_≢_, _⊎_}
 use mathlib.Core.Bool.{Bool, not, _&&_, _||_, cond}
 use mathlib.Core.List.{List, [], _∷_, _++_, map}
-use Prim.Native.Nat.{ℕ, zero, suc}
+use Prim.Native.Nat.{ℕ, zero, suc, _+_, _*_, _<_}
 use lib.Dec.{eqb, ltb}
-use lib.ListN.{length}
+use lib.ListN.{length, getD}
 use Rattle.cache.specs.Cache.{Cache, rowFrom}
 use Rattle.model.specs.Tasks.{Task}
 use Rattle.model.specs.States.{Fault11}
@@ -12,6 +13,7 @@ use Rattle.project.specs.declared.answers.Check.{Check}
 use Rattle.project.specs.declared.answers.Check.the-variants.{Passed}
 use Rattle.project.specs.declared.answers.Check.the-variants.{Refused as Failed}
 use Rattle.project.specs.declared.answers.Filling.{Filling}
+use Rattle.project.specs.declared.answers.Filling.the-variants.{Filled}
 use Rattle.project.specs.File.{File, taskCount}
 use Rattle.project.specs.Checklist.{Entry, one, each, noTask, Of, lowest, verdictOf}
 use Rattle.project.specs.Reading.{fileChecks}
@@ -64,3 +66,9 @@ pickTable (Failed c a) old new = old
 -- "After a refusal table and out list keep their contents"
 abbrev pub tableAfter : ℕ → File → Area → List ℕ → List ℕ
 tableAfter w s area table = pickTable (tableCheck w s area table) table (tableOf s)
+
+-- demand 3, of the pair numbers: "where table answers, they are its entries"
+abbrev pub TableEntries : ℕ → File → Type 0
+TableEntries w s =
+    (area : Area) (table : List ℕ) → tableAnswer w s area table ≡ Filled → (i j : ℕ) → i < taskCount s → j < taskCount s → j ≢ i
+    → getD (tableAfter w s area table) (8 * i + j) 0 ≡ filePair s i j

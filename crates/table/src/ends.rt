@@ -1,7 +1,7 @@
 // The end rows of all tasks of a file.
 ghost use mathlib.Core.Path.{_≡_};
 ghost use mathlib.Core.Bool.{true};
-ghost use Prim.Native.Nat.{_*_};
+ghost use Prim.Native.Nat.{_*_, _≤_, _<_};
 ghost use lib.ListN.{length, replicate};
 ghost use Rattle.cache.specs.Shape.{shaped, Holds};
 ghost use Rattle.rows.specs.Rows.{Width, kindLength, areaLength};
@@ -11,11 +11,13 @@ ghost use Rattle.project.specs.File.{taskCount};
 ghost use Rattle.project.specs.Reading.{readingOf};
 ghost use Rattle.project.specs.Bodies.{accepted};
 ghost use Rattle.project.specs.Tasks.{tasksOf, fileShape};
-ghost use Rattle.table.specs.Found.{TaskEnds, EndsFound, NoOthers};
+ghost use Rattle.pairs.specs.Pairs.{endsLength};
+ghost use Rattle.table.specs.Found.{TaskEnds, OneStored, EndsFound, NoOthers};
 use body::block_count;
 use cache::blocks::CacheShape;
+use cache::row::Row;
 use graphs::task_rows::reaching_rows;
-use pairs::replaced::used_union;
+use pairs::replaced::join_rows;
 use reader::task_body;
 use rows::copy_row;
 
@@ -38,7 +40,22 @@ fn task_ends(body: &[u8], shape: CacheShape, w: usize, rows: &mut [u16], ends: &
     count
 }
 
-// The end rows of each task of an accepted file, with the union of their used sets: those of task j stand from 32 w j on, none where a block has too many
+// A row for the end rows of task j, of which there are `count`, is stored after the end rows of all tasks; answers the cache blocks where they hold more
+// than one memory block.
+fn join_task(ends: &mut [u16], w: usize, j: usize, count: usize) -> u32
+    requires { ⌜ Width w × (length (now ends) ≡ endsLength w) × (j < 8) × (count ≤ 32) ⌝ }
+    ensures { λ r. ⌜ OneStored w j count (now (ends .entry)) (now (ends .exit)) r ⌝ }
+{
+    let part = 32 * w;
+    let at = part * j;
+    let mut one = [Row::NOTHING; 32];
+    let mixed = join_rows(&ends[at..at + part], count, w, &mut one[0..w]);
+    let from = 8 * part + w * j;
+    copy_row(&one[0..w], &mut ends[from..from + w]);
+    mixed
+}
+
+// The end rows of each task of an accepted file, with a row for them: those of task j stand from 32 w j on, none where a block has too many
 // reaching states. Left open are the order of the end rows, what stands after them, and the area.
 pub fn find_ends(
     file: &[u8],
@@ -48,12 +65,12 @@ pub fn find_ends(
     area: &mut [u16],
     ends: &mut [u16],
     counts: &mut [usize],
-    unions: &mut [u32],
+    mixed: &mut [u32],
 )
     requires { ⌜ (accepted (readingOf (now file)) ≡ true) × (shape ≡ fileShape (now file)) × Holds w shape × Width w × (tasks ≡ taskCount (now file))
-        × (length (now area) ≡ areaLength w) × (length (now ends) ≡ 8 * (32 * w)) × (now counts ≡ replicate 8 0) × (now unions ≡ replicate 8 0) ⌝ }
+        × (length (now area) ≡ areaLength w) × (length (now ends) ≡ endsLength w) × (now counts ≡ replicate 8 0) × (now mixed ≡ replicate 8 0) ⌝ }
     ensures { λ _. ⌜ (length (now (area .exit)) ≡ areaLength w)
-        × EndsFound (shaped w shape) (tasksOf (now (file .entry))) tasks (now (ends .exit)) (now (counts .exit)) (now (unions .exit))
+        × EndsFound (shaped w shape) (tasksOf (now (file .entry))) tasks (now (ends .exit)) (now (counts .exit)) (now (mixed .exit))
         × NoOthers (shaped w shape) (tasksOf (now (file .entry))) tasks (now (counts .exit)) ⌝ }
 {
     let part = 32 * w;
@@ -68,6 +85,6 @@ pub fn find_ends(
             &mut ends[at..at + part],
         );
         counts[j] = count;
-        unions[j] = used_union(&ends[at..at + part], count, w);
+        mixed[j] = join_task(ends, w, j, count);
     }
 }

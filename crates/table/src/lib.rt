@@ -4,7 +4,6 @@ mod numbers;
 
 ghost use mathlib.Core.Path.{_≡_};
 ghost use mathlib.Core.Bool.{true};
-ghost use Prim.Native.Nat.{_*_};
 ghost use lib.ListN.{length};
 ghost use Rattle.cache.specs.Shape.{shaped, Holds};
 ghost use Rattle.rows.specs.Rows.{Width, areaLength};
@@ -13,6 +12,7 @@ ghost use Rattle.project.specs.Reading.{headCheck, readingOf};
 ghost use Rattle.project.specs.Bodies.{accepted};
 ghost use Rattle.project.specs.Filling.{pickFilling};
 ghost use Rattle.project.specs.Tasks.{tasksOf, fileShape};
+ghost use Rattle.pairs.specs.Pairs.{endsLength};
 ghost use Rattle.table.specs.Table.{firstFull, tableOf, pickTable, tableAnswer, tableAfter};
 use area::AREA_LENGTH;
 use cache::blocks::CacheShape;
@@ -24,6 +24,7 @@ use project::answers::Filling;
 use project::answers::NO_TASK;
 use project::answers::Reading;
 use project::head::head;
+use reader::file_shape;
 use reader::read_bodies;
 
 // The table gets the numbers.
@@ -36,8 +37,8 @@ fn copy_numbers(numbers: &[u16], table: &mut [u16])
     }
 }
 
-// The table of an accepted file, gathered in an area for rows of w places, with room for 32 end rows of each of 8 tasks; check 11. What the area
-// and this room hold afterwards is free.
+// The table of an accepted file, gathered in an area for rows of w places, with room for 32 end rows of each of 8 tasks and the one row for them; check
+// 11. What the area and this room hold afterwards is free.
 fn fill_table(
     file: &[u8],
     shape: CacheShape,
@@ -48,16 +49,16 @@ fn fill_table(
     table: &mut [u16],
 ) -> Filling
     requires { ⌜ (accepted (readingOf (now file)) ≡ true) × (shape ≡ fileShape (now file)) × Holds w shape × Width w × (tasks ≡ taskCount (now file))
-        × (length (now area) ≡ areaLength w) × (length (now ends) ≡ 8 * (32 * w)) × (length (now table) ≡ 64) ⌝ }
+        × (length (now area) ≡ areaLength w) × (length (now ends) ≡ endsLength w) × (length (now table) ≡ 64) ⌝ }
     ensures { λ r. ⌜ (r ≡ pickFilling (firstFull (shaped w shape) 0 (tasksOf (now (file .entry)))))
         × (now (table .exit) ≡ pickTable (firstFull (shaped w shape) 0 (tasksOf (now (file .entry)))) (now (table .entry)) (tableOf
         (now (file .entry))))
         × (length (now (area .exit)) ≡ areaLength w) ⌝ }
 {
     let mut counts = [0usize; 8];
-    let mut unions = [0u32; 8];
+    let mut mixed = [0u32; 8];
     let mut numbers = [0u16; 64];
-    find_ends(file, shape, w, tasks, area, ends, &mut counts, &mut unions);
+    find_ends(file, shape, w, tasks, area, ends, &mut counts, &mut mixed);
     match find_numbers(
         file,
         shape,
@@ -66,7 +67,7 @@ fn fill_table(
         area,
         ends,
         &counts,
-        &unions,
+        &mixed,
         &mut numbers,
     ) {
         Check::Refused { check, task } => Filling::Refused { check, task },
@@ -87,11 +88,11 @@ fn table_of_bodies(file: &[u8], area: &mut [u16], table: &mut [u16]) -> Filling
 {
     match read_bodies(file) {
         Reading::Refused { check, task } => Filling::Refused { check, task },
-        Reading::Accepted { n, t } => {
-            let mut ends = [0u16; 4096];
+        Reading::Accepted { n: _, t } => {
+            let mut ends = [0u16; 4224];
             fill_table(
                 file,
-                CacheShape { blocks: n },
+                file_shape(file),
                 16,
                 byte_count(t),
                 area,

@@ -32,14 +32,14 @@ fn task_numbers(
     area: &mut [u16],
     ends: &[u16],
     counts: &[usize],
-    unions: &[u32],
+    mixed: &[u32],
     tasks: usize,
     numbers: &mut [u16],
 ) -> bool
     requires { ⌜ (keptOf (decode (now body)) ≡ true) × Holds w shape × Width w × (length (now area) ≡ areaLength w)
-        × EndRows w (now ends) (now counts) (now unions) tasks × (length (now numbers) ≡ 8) ⌝ }
+        × EndRows w (now ends) (now counts) (now mixed) tasks × (length (now numbers) ≡ 8) ⌝ }
     ensures { λ r. ⌜ (length (now (area .exit)) ≡ areaLength w) × ((ts : List Task)
-        → EndsFound (shaped w shape) ts tasks (now (ends .entry)) (now (counts .entry)) (now (unions .entry))
+        → EndsFound (shaped w shape) ts tasks (now (ends .entry)) (now (counts .entry)) (now (mixed .entry))
         → NumbersFound (shaped w shape) ts tasks (taskOf (decode (now (body .entry)))) (now (numbers .entry)) (now (numbers .exit)) r) ⌝ }
 {
     let mut reached = [0usize; 24];
@@ -58,7 +58,7 @@ fn task_numbers(
         &lived,
         ends,
         counts,
-        unions,
+        mixed,
         tasks,
         numbers,
     );
@@ -75,11 +75,11 @@ pub fn find_numbers(
     area: &mut [u16],
     ends: &[u16],
     counts: &[usize],
-    unions: &[u32],
+    mixed: &[u32],
     numbers: &mut [u16],
 ) -> Check
     requires { ⌜ (accepted (readingOf (now file)) ≡ true) × (shape ≡ fileShape (now file)) × Holds w shape × Width w × (tasks ≡ taskCount (now file))
-        × (length (now area) ≡ areaLength w) × EndsFound (shaped w shape) (tasksOf (now file)) tasks (now ends) (now counts) (now unions)
+        × (length (now area) ≡ areaLength w) × EndsFound (shaped w shape) (tasksOf (now file)) tasks (now ends) (now counts) (now mixed)
         × (now numbers ≡ replicate 64 0) ⌝ }
     ensures { λ r. ⌜ (length (now (area .exit)) ≡ areaLength w) × (r ≡ firstFull (shaped w shape) 0 (tasksOf (now (file .entry))))
         × (r ≡ Passed → now (numbers .exit) ≡ tableOf (now (file .entry))) ⌝ }
@@ -93,7 +93,7 @@ pub fn find_numbers(
             area,
             ends,
             counts,
-            unions,
+            mixed,
             tasks,
             &mut numbers[8 * i..8 * i + 8],
         ) {

@@ -1,2 +1,3 @@
+pub mod PassedOver
 pub mod Meetings
 pub mod PairNumbers

@@ -1,6 +1,6 @@
--- The numbers after more points of a task: after one more reference, for one more row before the block, and for one more block.
+-- The numbers after more points of a task: for one more row before the block, and for one more block. Those after one more reference are in PassedOver.
 -- A number is the largest so far, and the largest over more points is the larger of two largest.
-use mathlib.Core.Path.{_≡_, refl, sym, ap, ap₂, _∙_}
+use mathlib.Core.Path.{_≡_, refl, sym, ap, _∙_}
 use mathlib.Core.Bool.{Bool, true, false, cond}
 use mathlib.Core.List.{List, [], _∷_, _++_, append-nil, append-assoc}
 use Prim.Native.Nat.{ℕ, zero, suc, _+_, _-_, _*_, _≤_, _<_, max}
@@ -12,7 +12,7 @@ use lib.Seq.{length-take-le}
 use borrow.Author.Tests.{eq-eqb, ne-eqb}
 use borrow.Rule.Slice.PartMut.{putMid}
 use Rattle.cache.specs.References.{numbers}
-use Rattle.cache.specs.Cache.{Cache, emptyRow, withReferences}
+use Rattle.cache.specs.Cache.{Cache, emptyRow}
 use Rattle.cache.specs.Sets.{inSet}
 use Rattle.cache.proofs.NumberLaws.{length-numbers}
 use Rattle.model.specs.Lists.{best}
@@ -47,13 +47,6 @@ room-rests w k ms l new e h = rw (lent-front (17 * w) l new refl (h .long ∙ ap
 
 -- ---- the largest over more
 
-up-more : (f : ℕ → ℕ) (from n : ℕ) → best f (upFrom from (suc n)) ≡ max (best f (upFrom from n)) (f (from + n))
-up-more f from zero = let e = ap f (add-zero from) in omega (arith, e)
-up-more f from (suc n) =
-    let z : suc from + n ≡ from + suc n = omega arith in
-    let e = ap f z in
-    omega (arith, e, up-more f (suc from) n)
-
 dones-some : (ms : List ℕ) → 0 < length ms → dones ms ≡ upFrom 1 (length ms)
 dones-some [] h = absurd (omega arith)
 dones-some (m ∷ ms) h = refl
@@ -81,18 +74,6 @@ as-wide w tasks lived row rest live ends counts old new e h = rw (← e) h
 
 module _ (w : ℕ) (ends counts : List ℕ) (tasks : ℕ) (k : Cache) (ms : List ℕ) (ls : List (List ℕ)) where
   module _ (row : List ℕ) where
-    -- after one more reference
-    pub met-done : (i : ℕ) {now rest n n' n'' : List ℕ} → now ≡ withReferences k row (take (i + 1) ms) → rest ≡ restOf k ms (i + 1)
-        → Met (λ fs. best (doneMost k ms ls row fs) (upFrom 1 i)) w ends counts tasks n n' → Met (pointMost now rest ls) w ends counts tasks n' n''
-        → Met (λ fs. best (doneMost k ms ls row fs) (upFrom 1 (i + 1))) w ends counts tasks n n''
-    met-done i e d =
-        met-more w ends counts tasks (λ fs. best (doneMost k ms ls row fs) (upFrom 1 (i + 1)))
-        (λ fs. let z : 1 + i ≡ i + 1 = omega arith in
-        ap (λ (j : ℕ). best (doneMost k ms ls row fs) (upFrom 1 j)) (add-one i)
-        ∙ up-more (doneMost k ms ls row fs) 1 i
-        ∙ ap (max (best (doneMost k ms ls row fs) (upFrom 1 i)))
-        (ap (doneMost k ms ls row fs) z ∙ ap₂ (λ (x y : List ℕ). pointMost x y ls fs) (sym e) (sym d)))
-
     -- all points of a block: it has no reference, or some
     pub met-one : {rest n n' : List ℕ} → ms ≡ [] → rest ≡ restOf k ms 0 → Met (pointMost row rest ls) w ends counts tasks n n'
         → Met (beforeMost k ms ls row) w ends counts tasks n n'

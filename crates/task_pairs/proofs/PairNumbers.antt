@@ -27,7 +27,7 @@ use Rattle.model.proofs.Membership.{eqb-self, sameList-self, sameList-true}
 use Rattle.model.proofs.Sorted.{sorted-has, sorted-only, reaching-rows, living-rows}
 use Rattle.model.proofs.Entering.{Enters, dones-exact, at-point, live-point, point-before, point-after, point-inside}
 use Rattle.model.proofs.Most.{best-le, best-attained, most-unique, unmasked-exact, pair-is}
-use Rattle.model.proofs.StatesWidth.{lives-long}
+use Rattle.model.proofs.Policies.{lives-long}
 use Rattle.body.proofs.BlockParts.{all-drop}
 use Rattle.graphs.proofs.Listed.{block-real}
 use Rattle.rows.specs.Overlay.{overlay}

@@ -3,7 +3,7 @@ ghost use mathlib.Core.Path.{_≡_};
 ghost use mathlib.Core.Bool.{true};
 ghost use Prim.Native.Nat.{_*_, _/_, _≤_, _<_};
 ghost use lib.ListN.{length};
-ghost use Rattle.cache.specs.References.{numbers as referencesIn};
+ghost use Rattle.cache.specs.References.{numbers as referencesIn, Real, All};
 ghost use Rattle.cache.specs.Cache.{withReferences};
 ghost use Rattle.cache.specs.Shape.{shaped, Holds};
 ghost use Rattle.model.specs.Lists.{best};
@@ -23,11 +23,14 @@ use body::walk;
 use cache::blocks::CacheShape;
 use graphs::task_rows::NO_ROWS;
 use pairs::numbers::meet_point;
+use points::done::hits_next;
 use points::done::refer_row;
 use points::left::rests;
 use rows::copy_row;
 
 // The points of a block after each of its references are met, for the row before the block; in the end the row is that after all of them.
+// A point before a miss has no more than the one after it, and a point after a hit no more than the one before it: these are passed over. `rising` tells
+// that the next reference misses, or that none is done yet, and `top` that the one after it hits, or that there is none.
 fn meet_done(
     row: &mut [u16],
     references: &[u8],
@@ -38,31 +41,37 @@ fn meet_done(
     lived: usize,
     ends: &[u16],
     counts: &[usize],
-    unions: &[u32],
+    mixed: &[u32],
     tasks: usize,
     numbers: &mut [u16],
 )
-    requires { ⌜ PointRows w shape (now references) (now rests) (now live) lived (now ends) (now counts) (now unions) tasks
+    requires { ⌜ PointRows w shape (now references) (now rests) (now live) lived (now ends) (now counts) (now mixed) tasks
         × (length (now row) ≡ w) × (length (now numbers) ≡ 8) ⌝ }
     ensures { λ _. ⌜ (now (row .exit) ≡ withReferences (shaped w shape) (now (row .entry)) (referencesIn (now (references .entry))))
         × Met (λ fs. best (doneMost (shaped w shape) (referencesIn (now (references .entry))) (rowsOf w lived (now (live .entry))) (now (row .entry)) fs)
         (upFrom 1 (length (now (references .entry)) / 2)))
         w (now (ends .entry)) (now (counts .entry)) tasks (now (numbers .entry)) (now (numbers .exit)) ⌝ }
 {
-    for i in 0..references.len() / 2 {
+    let count = references.len() / 2;
+    let mut rising = 0 < count;
+    for i in 0..count {
         refer_row(references, i, shape, row);
-        let at = w * (i + 1);
-        meet_point(
-            row,
-            &rests[at..at + w],
-            live,
-            lived,
-            ends,
-            counts,
-            unions,
-            tasks,
-            numbers,
-        );
+        let top = hits_next(references, i + 1, shape, row);
+        if rising && top {
+            let at = w * (i + 1);
+            meet_point(
+                row,
+                &rests[at..at + w],
+                live,
+                lived,
+                ends,
+                counts,
+                mixed,
+                tasks,
+                numbers,
+            );
+        }
+        rising = !top;
     }
 }
 
@@ -77,11 +86,11 @@ fn meet_before(
     lived: usize,
     ends: &[u16],
     counts: &[usize],
-    unions: &[u32],
+    mixed: &[u32],
     tasks: usize,
     numbers: &mut [u16],
 )
-    requires { ⌜ PointRows w shape (now references) (now rests) (now live) lived (now ends) (now counts) (now unions) tasks
+    requires { ⌜ PointRows w shape (now references) (now rests) (now live) lived (now ends) (now counts) (now mixed) tasks
         × (length (now row) ≡ w) × (length (now numbers) ≡ 8) ⌝ }
     ensures { λ _. ⌜ Met (beforeMost (shaped w shape) (referencesIn (now (references .entry))) (rowsOf w lived (now (live .entry))) (now (row .entry)))
         w (now (ends .entry)) (now (counts .entry)) tasks (now (numbers .entry)) (now (numbers .exit)) ⌝ }
@@ -94,7 +103,7 @@ fn meet_before(
             lived,
             ends,
             counts,
-            unions,
+            mixed,
             tasks,
             numbers,
         );
@@ -112,7 +121,7 @@ fn meet_before(
         lived,
         ends,
         counts,
-        unions,
+        mixed,
         tasks,
         numbers,
     );
@@ -130,11 +139,11 @@ fn meet_rows(
     lived: usize,
     ends: &[u16],
     counts: &[usize],
-    unions: &[u32],
+    mixed: &[u32],
     tasks: usize,
     numbers: &mut [u16],
 )
-    requires { ⌜ PointRows w shape (now references) (now rests) (now live) lived (now ends) (now counts) (now unions) tasks
+    requires { ⌜ PointRows w shape (now references) (now rests) (now live) lived (now ends) (now counts) (now mixed) tasks
         × (length (now rows) ≡ 32 * w) × (count ≤ 32) × (length (now numbers) ≡ 8) ⌝ }
     ensures { λ _. ⌜ Met (blockMost (shaped w shape) (referencesIn (now (references .entry))) (rowsOf w lived (now (live .entry)))
         (rowsOf w count (now (rows .entry))))
@@ -152,7 +161,7 @@ fn meet_rows(
             lived,
             ends,
             counts,
-            unions,
+            mixed,
             tasks,
             numbers,
         );
@@ -173,11 +182,11 @@ fn meet_entering(
     lived: usize,
     ends: &[u16],
     counts: &[usize],
-    unions: &[u32],
+    mixed: &[u32],
     tasks: usize,
     numbers: &mut [u16],
 )
-    requires { ⌜ PointRows w shape (now references) (now rests) (now live) lived (now ends) (now counts) (now unions) tasks
+    requires { ⌜ PointRows w shape (now references) (now rests) (now live) lived (now ends) (now counts) (now mixed) tasks
         × (blocks ≤ 24) × Memory w (now reaching) (now reached) × (length (now numbers) ≡ 8) ⌝ }
     ensures { λ _. ⌜ Met (blockMost (shaped w shape) (referencesIn (now (references .entry))) (rowsOf w lived (now (live .entry)))
         (rowsIn set (heldRows w (now (reaching .entry)) (now (reached .entry))) blocks 0))
@@ -198,7 +207,7 @@ fn meet_entering(
                 lived,
                 ends,
                 counts,
-                unions,
+                mixed,
                 tasks,
                 numbers,
             );
@@ -221,12 +230,12 @@ fn meet_block(
     lived: usize,
     ends: &[u16],
     counts: &[usize],
-    unions: &[u32],
+    mixed: &[u32],
     tasks: usize,
     numbers: &mut [u16],
 )
-    requires { ⌜ Holds w shape × (length (now references) / 2 ≤ 16) × (length (now live) ≡ 32 * w) × (lived ≤ 32)
-        × EndRows w (now ends) (now counts) (now unions) tasks × (blocks ≤ 24) × Memory w (now reaching) (now reached) × (length (now numbers) ≡ 8) ⌝ }
+    requires { ⌜ Holds w shape × (length (now references) / 2 ≤ 16) × All Real (referencesIn (now references)) × (length (now live) ≡ 32 * w) × (lived ≤ 32)
+        × EndRows w (now ends) (now counts) (now mixed) tasks × (blocks ≤ 24) × Memory w (now reaching) (now reached) × (length (now numbers) ≡ 8) ⌝ }
     ensures { λ _. ⌜ Met (blockMost (shaped w shape) (referencesIn (now (references .entry))) (rowsOf w lived (now (live .entry)))
         (rowsBefore (shaped w shape) blocks set (heldRows w (now (reaching .entry)) (now (reached .entry))) b))
         w (now (ends .entry)) (now (counts .entry)) tasks (now (numbers .entry)) (now (numbers .exit)) ⌝ }
@@ -245,7 +254,7 @@ fn meet_block(
             lived,
             ends,
             counts,
-            unions,
+            mixed,
             tasks,
             numbers,
         );
@@ -263,7 +272,7 @@ fn meet_block(
         lived,
         ends,
         counts,
-        unions,
+        mixed,
         tasks,
         numbers,
     );
@@ -281,12 +290,12 @@ pub fn meet_task(
     lived: &[usize],
     ends: &[u16],
     counts: &[usize],
-    unions: &[u32],
+    mixed: &[u32],
     tasks: usize,
     numbers: &mut [u16],
 )
     requires { ⌜ (keptOf (decode (now body)) ≡ true) × Holds w shape × Memory w (now reaching) (now reached) × Memory w (now live) (now lived)
-        × EndRows w (now ends) (now counts) (now unions) tasks × (length (now numbers) ≡ 8) ⌝ }
+        × EndRows w (now ends) (now counts) (now mixed) tasks × (length (now numbers) ≡ 8) ⌝ }
     ensures { λ _. ⌜ Met (taskMost (shaped w shape) (taskOf (decode (now (body .entry)))) (heldRows w (now (reaching .entry)) (now (reached .entry)))
         (heldRows w (now (live .entry)) (now (lived .entry))) (length (taskOf (decode (now (body .entry))))) 0)
         w (now (ends .entry)) (now (counts .entry)) tasks (now (numbers .entry)) (now (numbers .exit)) ⌝ }
@@ -313,7 +322,7 @@ pub fn meet_task(
                 lived[b],
                 ends,
                 counts,
-                unions,
+                mixed,
                 tasks,
                 numbers,
             );

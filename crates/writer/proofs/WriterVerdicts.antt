@@ -4,7 +4,7 @@ use mathlib.Core.Path.{_≡_, refl, sym}
 use mathlib.Core.Logic.{_↔_}
 use mathlib.Core.Bool.{Bool, true, false}
 use mathlib.Core.List.{List, [], _∷_}
-use Prim.Native.Nat.{ℕ, zero, suc, _<_}
+use Prim.Native.Nat.{ℕ, zero, suc, _*_, _≤_, _<_}
 use native.Mathlib.Nat.{not-suc-le-zero}
 use native.Mathlib.Omega.{arith}
 use lib.Dec.{eqb, ltb}
@@ -17,7 +17,7 @@ use Rattle.project.specs.declared.answers.Check.the-variants.{Refused as Failed
 use Rattle.project.specs.Checks.{body}
 use Rattle.project.specs.Checklist.{one, noTask, numbers, Verdict, Agreeing}
 use Rattle.project.specs.Reading.{taskChecks}
-use Rattle.project.specs.Writing.{total, cut, fileLength, SumFault, Fault14, writerChecks, writerCheck, pickWriting, writingOf}
+use Rattle.project.specs.Writing.{total, cut, fileLength, SumFault, Fault14, writerChecksIn, writerCheckIn, pickWriting, writingIn}
 use Rattle.project.specs.Verdict.{WriterVerdict}
 use Rattle.project.proofs.Checklists.{verdict-exact, agreeing-append}
 use Rattle.project.proofs.TaskFaults.{Bytes, tasks-agreeing}
@@ -31,11 +31,11 @@ cut-bytes s [] h i l = absurd (not-suc-le-zero l)
 cut-bytes s (n ∷ ls) h zero l = all-take _ n s h
 cut-bytes s (n ∷ ls) h (suc i) l = cut-bytes _ ls (all-drop _ n s h) i (omega arith)
 
-module _ (n : ℕ) (s ls out : List ℕ) where
-  exact14 : total ls ≡ length s → (ltb (length out) (fileLength s ls) ≡ true) ↔ Fault14 n s ls out
+module _ (k n : ℕ) (s ls out : List ℕ) (some : 1 ≤ k) where
+  exact14 : total ls ≡ length s → (ltb (length out) (fileLength k s ls) ≡ true) ↔ Fault14 k n s ls out
   exact14 e =
-      let long = length-written n s ls out e in
-      (λ q. omega (arith, ltb-true (length out) (fileLength s ls) q), λ f. lt-ltb (length out) (fileLength s ls) (omega (arith, f)))
+      let long = length-written k n s ls out some e in
+      (λ q. omega (arith, ltb-true (length out) (fileLength k s ls) q), λ f. lt-ltb (length out) (fileLength k s ls) (omega (arith, f)))
 
   -- no fault of check 7: the lengths sum up to the joined length
   sum-right : (SumFault s ls → ⊥) → total ls ≡ length s
@@ -45,28 +45,28 @@ module _ (n : ℕ) (s ls out : List ℕ) where
       go true e = eqb-true (total ls) (length s) e
       go false e = absurd (none (eqb-false (total ls) (length s) e))
 
-  pub writer-agreeing : Bytes s → Agreeing (writerChecks n s ls out)
+  pub writer-agreeing : Bytes s → Agreeing (writerChecksIn k n s ls out)
   writer-agreeing h = (
-    outside-exact n 1 16 n,
+    outside-exact n 1 (16 * k) n,
     λ p5. (
       outside-exact (length ls) 1 8 (length ls),
       λ p6. (
         differ-exact (total ls) (length s),
         λ p7. agreeing-append (taskChecks (cut s ls))
-            (one 14 noTask (ltb (length out) (fileLength s ls)) (Fault14 n s ls out) ∷ []) (tasks-agreeing (cut s ls) (cut-bytes s ls h))
+            (one 14 noTask (ltb (length out) (fileLength k s ls)) (Fault14 k n s ls out) ∷ []) (tasks-agreeing (cut s ls) (cut-bytes s ls h))
             (λ p9. (exact14 (sum-right p7), λ p14. tt)),
       ),
     ),
   )
 
   -- what the writer answers, for every n, list of bytes and lengths
-  pub writer-verdict : Bytes s → WriterVerdict n s ls out (writingOf n s ls out)
-  writer-verdict h = go (writerCheck n s ls out) refl (verdict-exact (writerChecks n s ls out) (writer-agreeing h))
+  pub writer-verdict : Bytes s → WriterVerdict k n s ls out (writingIn k n s ls out)
+  writer-verdict h = go (writerCheckIn k n s ls out) refl (verdict-exact (writerChecksIn k n s ls out) (writer-agreeing h))
     where
-      go : (r : Check) → writerCheck n s ls out ≡ r → Verdict (writerChecks n s ls out) r → WriterVerdict n s ls out (pickWriting r (fileLength s ls))
-      go Passed e v = (v, sym (length-written n s ls out (all-passed n s ls out e .sum)))
+      go : (r : Check) → writerCheckIn k n s ls out ≡ r → Verdict (writerChecksIn k n s ls out) r → WriterVerdict k n s ls out (pickWriting r (fileLength k s ls))
+      go Passed e v = (v, sym (length-written k n s ls out some (all-passed k n s ls out e .sum)))
       go (Failed c a) e v = v
 
   -- "Writer checks 5, 6 .., 7 .., 8, 9, 10, 14."; without 10 (document 02, Point 5)
-  pub writer-order : numbers (writerChecks n s ls out) ≡ 5 ∷ 6 ∷ 7 ∷ 8 ∷ 9 ∷ 14 ∷ []
+  pub writer-order : numbers (writerChecksIn k n s ls out) ≡ 5 ∷ 6 ∷ 7 ∷ 8 ∷ 9 ∷ 14 ∷ []
   writer-order = refl

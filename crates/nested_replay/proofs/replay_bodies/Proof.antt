@@ -3,14 +3,14 @@ use mathlib.Core.Path.{_≡_, sym, ap, _∙_}
 use Rattle.project.specs.declared.answers.Reading.the-variants.{Accepted}
 use Rattle.project.specs.Reading.{readingOf}
 use Rattle.project.specs.Bodies.{accepted}
-use Rattle.nested_replay.proofs.CallLaws.{call-refused, tasks-of, shape-of}
+use Rattle.nested_replay.proofs.CallLaws.{call-refused, tasks-of}
 use borrow.Author.Needs.{needs}
 use Rattle.nested_replay.proofs.replay_bodies.Statement.{statement}
 use Rattle.nested_replay.proofs.replay_bodies.Tie as tie
 
 -- n and t are the file's
-reading : (c : tie.After-n) → readingOf (c .before .before .before .before .before .args .file .now) ≡ Accepted (c .n .given .0 .0) (c .n .given .0 .1 .0)
-reading c = sym (c .before .before .read-bodies .ensures) ∙ c .n .given .1
+reading : (c : tie.After-t) → readingOf (c .before .before .before .before .before .args .file .now) ≡ Accepted (c .t .given .0 .0) (c .t .given .0 .1 .0)
+reading c = sym (c .before .before .read-bodies .ensures) ∙ c .t .given .1
 
 read-bodies-requires : tie.Need-read-bodies-requires
 read-bodies-requires c κs = search needs
@@ -18,17 +18,20 @@ read-bodies-requires c κs = search needs
 enum-known-check : tie.Need-enum-known-check
 enum-known-check c = search needs
 
-enum-known-n : tie.Need-enum-known-n
-enum-known-n c = search needs
+enum-known-t : tie.Need-enum-known-t
+enum-known-t c = search needs
 
 byte-count-requires : tie.Need-byte-count-requires
 byte-count-requires c κs = search needs
 
+file-shape-requires : tie.Need-file-shape-requires
+file-shape-requires c κs = ap accepted (reading (c .before .before))
+
 replay-sheet-requires : tie.Need-replay-sheet-requires
 replay-sheet-requires c κs =
-    let n = c .before .before in
+    let n = c .before .before .before in
     let s = n .before .before .before .before .before .args .file .now in
-    (ap accepted (reading n), tasks-of s (reading n) (c .byte-count .ensures .0), shape-of s (reading n))
+    (ap accepted (reading n), tasks-of s (reading n) (c .before .byte-count .ensures .0), c .file-shape .ensures)
 
 returns : tie.Need-returns
 returns c =
@@ -44,8 +47,9 @@ replay-bodies-spec =
     (tie.spec
     read-bodies-requires
     enum-known-check
-    enum-known-n
+    enum-known-t
     byte-count-requires
+    file-shape-requires
     replay-sheet-requires
     returns
     returns-2)

@@ -13,7 +13,7 @@ place-requires c κs = search needs
 add-to : tie.Need-add-to
 add-to c =
     let args = c .before .before .before .args in
-    omega (arith, place-inside (args .file .now) (args .task), c .before .place .ensures .0, c .before .place .ensures .1)
+    omega (arith, place-inside 1 (args .file .now) (args .task), c .before .place .ensures .0, c .before .place .ensures .1)
 
 sub-result : tie.Need-sub-result
 sub-result c = search needs
@@ -24,7 +24,7 @@ part-result-start c = search needs
 part-result-end : tie.Need-part-result-end
 part-result-end c =
     let args = c .before .before .before .args in
-    let l = place-inside (args .file .now) (args .task) in
+    let l = place-inside 1 (args .file .now) (args .task) in
     let p = c .before .place .ensures .0 in
     let q = c .before .place .ensures .1 in
     search needs
@@ -33,7 +33,7 @@ returns : tie.Need-returns
 returns c =
     let args = c .before .before .before .before .args in
     let found = c .before .before .place in (
-      place-body (args .file .now) (args .task) (found .ensures .0) (ap (λ (x : ℕ). found .result .start + x) (found .ensures .1)),
+      place-body 1 (args .file .now) (args .task) (found .ensures .0) (ap (λ (x : ℕ). found .result .start + x) (found .ensures .1)),
       refl,
       omega (arith, found .ensures .0),
     )

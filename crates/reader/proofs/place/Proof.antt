@@ -26,19 +26,19 @@ entry-requires c κs =
     (ap accepted e, body-inside (start .args .file .now) e (start .args .task) (omega (arith, c .if1 .taken, c .before .byte-count .ensures)) .below)
 
 returns : tie.Need-returns
-returns c = place-refused (c .before .before .before .before .args .file .now) (c .before .before .before .before .args .task) (sym (c .before .before .read .ensures) ∙ c .enum-told .given .1)
+returns c = place-refused 1 (c .before .before .before .before .args .file .now) (c .before .before .before .before .args .task) (sym (c .before .before .read .ensures) ∙ c .enum-told .given .1)
 
 returns-2 : tie.Need-returns-2
 returns-2 c =
     let then = c .before in
     let start = then .before .before .before .before .before .before .before in
-    place-there (start .args .file .now) (start .args .task) (sym (then .before .before .before .before .before .read .ensures) ∙ then .before .before .before .t .given .1)
+    place-there 1 (start .args .file .now) (start .args .task) (sym (then .before .before .before .before .before .read .ensures) ∙ then .before .before .before .t .given .1)
     (omega (arith, then .if1 .taken, then .before .byte-count .ensures)) (c .entry .ensures .0) (c .entry .ensures .1)
 
 returns-3 : tie.Need-returns-3
 returns-3 c =
     let start = c .before .before .before .before .before .before .before in
-    place-above (start .args .file .now) (start .args .task) (sym (c .before .before .before .before .before .read .ensures) ∙ c .before .before .before .t .given .1) (omega (arith, c .if1 .left, c .before .byte-count .ensures))
+    place-above 1 (start .args .file .now) (start .args .task) (sym (c .before .before .before .before .before .read .ensures) ∙ c .before .before .before .t .given .1) (omega (arith, c .if1 .left, c .before .byte-count .ensures))
 
 pub place-spec : {M : Type 1} → statement M
 place-spec =

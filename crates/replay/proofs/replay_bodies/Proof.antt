@@ -5,14 +5,14 @@ use Rattle.project.specs.declared.answers.Reading.the-variants.{Accepted}
 use Rattle.project.specs.Reading.{readingOf}
 use Rattle.project.specs.Bodies.{accepted}
 use Rattle.replay.specs.Replay.{sheetCheck}
-use Rattle.replay.proofs.CallLaws.{call-refused, tasks-of, shape-of, call-sheet, ready, call-counted}
+use Rattle.replay.proofs.CallLaws.{call-refused, tasks-of, call-sheet, ready, call-counted}
 use borrow.Author.Needs.{needs}
 use Rattle.replay.proofs.replay_bodies.Statement.{statement}
 use Rattle.replay.proofs.replay_bodies.Tie as tie
 
 -- n and t are the file's
-reading : (c : tie.After-n) → readingOf (c .before .before .before .before .before .args .file .now) ≡ Accepted (c .n .given .0 .0) (c .n .given .0 .1 .0)
-reading c = sym (c .before .before .read-bodies .ensures) ∙ c .n .given .1
+reading : (c : tie.After-t) → readingOf (c .before .before .before .before .before .args .file .now) ≡ Accepted (c .t .given .0 .0) (c .t .given .0 .1 .0)
+reading c = sym (c .before .before .read-bodies .ensures) ∙ c .t .given .1
 
 -- the checks on the sheet pass
 passed : (c : tie.After-enum-told)
@@ -26,8 +26,8 @@ read-bodies-requires c κs = search needs
 enum-known-check : tie.Need-enum-known-check
 enum-known-check c = search needs
 
-enum-known-n : tie.Need-enum-known-n
-enum-known-n c = search needs
+enum-known-t : tie.Need-enum-known-t
+enum-known-t c = search needs
 
 byte-count-requires : tie.Need-byte-count-requires
 byte-count-requires c κs = search needs
@@ -44,11 +44,15 @@ enum-known-check-2 c = search needs
 enum-told : tie.Need-enum-told
 enum-told c = search needs
 
+file-shape-requires : tie.Need-file-shape-requires
+file-shape-requires c κs = ap accepted (reading (c .before .before .before .before .before))
+
 run-counts-requires : tie.Need-run-counts-requires
 run-counts-requires c κs =
-    let n = c .before .before .before .before .before in
+    let told = c .before in
+    let n = told .before .before .before .before .before in
     let args = n .before .before .before .before .before .args in
-    (ready (args .file .now) (args .sheet .now) (reading n) (passed c), shape-of (args .file .now) (args .sheet .now) (reading n))
+    (ready (args .file .now) (args .sheet .now) (reading n) (passed told), c .file-shape .ensures)
 
 returns : tie.Need-returns
 returns c =
@@ -64,7 +68,7 @@ returns-2 c =
 
 returns-3 : tie.Need-returns-3
 returns-3 c =
-    let told = c .before in
+    let told = c .before .before in
     let n = told .before .before .before .before .before in
     let args = n .before .before .before .before .before .args in
     call-counted (args .file .now) (args .sheet .now) (reading n) (passed told) (c .run-counts .ensures)
@@ -75,11 +79,12 @@ replay-bodies-spec =
     (tie.spec
     read-bodies-requires
     enum-known-check
-    enum-known-n
+    enum-known-t
     byte-count-requires
     check-sheet-requires
     enum-known-check-2
     enum-told
+    file-shape-requires
     run-counts-requires
     returns
     returns-2

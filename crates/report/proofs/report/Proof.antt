@@ -26,7 +26,7 @@ enum-told : tie.Need-enum-told
 enum-told c = search needs
 
 -- where the table is filled the file is accepted
-accepted : (c : tie.After-enum-told) → Passing (c .before .before .before .before .before .before .before .before .before .before .before .args .file .now)
+accepted : (c : tie.After-enum-told) → Passing 1 (c .before .before .before .before .before .before .before .before .before .before .before .args .file .now)
 accepted c =
     let start = c .before .before .before .before .before .before .before .before .before .before .before in
     filled-passing (start .args .file .now) (start .args .area .now) (replicate 64 0) (start .pre .0) refl (c .before .before .before .before .before .table .ensures .0) (c .enum-told .given .1)

@@ -21,12 +21,12 @@ use Rattle.task_pairs.proofs.meet_entering.Statement.{statement}
 use Rattle.task_pairs.proofs.meet_entering.Tie as tie
 
 abbrev Inv-loop : tie.InvT-loop
-Inv-loop blocks set reaching reached references shape w rests live lived ends counts unions tasks numbers₀ part p₀ numbers p =
+Inv-loop blocks set reaching reached references shape w rests live lived ends counts mixed tasks numbers₀ part p₀ numbers p =
     (p ≤ blocks) × (length numbers ≡ 8)
     × Met (blockMost (shaped w shape) (referencesIn references) (rowsOf w lived live) (rowsIn set (heldRows w reaching reached) p 0)) w ends counts tasks numbers₀ numbers
 
 abbrev μ-loop : tie.MeasureT-loop
-μ-loop blocks set reaching reached references shape w rests live lived ends counts unions tasks numbers₀ part p₀ numbers p = blocks - p
+μ-loop blocks set reaching reached references shape w rests live lived ends counts mixed tasks numbers₀ part p₀ numbers p = blocks - p
 
 -- where the rows of block p end
 inside : (c : tie.In-loop Inv-loop μ-loop) → let w = c .before .before .before .before .before .before .before .before .before .before .before .args .w in (32 * w * c .before .loop .p + 32 * w ≤ 24 * (32 * w)) × (w ≤ 32)

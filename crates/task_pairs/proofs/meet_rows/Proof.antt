@@ -17,12 +17,12 @@ use Rattle.task_pairs.proofs.meet_rows.Statement.{statement}
 use Rattle.task_pairs.proofs.meet_rows.Tie as tie
 
 abbrev Inv-loop : tie.InvT-loop
-Inv-loop rows count references shape w rests live lived ends counts unions tasks numbers₀ k₀ numbers k =
+Inv-loop rows count references shape w rests live lived ends counts mixed tasks numbers₀ k₀ numbers k =
     (k ≤ count) × (length numbers ≡ 8)
     × Met (blockMost (shaped w shape) (referencesIn references) (rowsOf w lived live) (rowsOf w k rows)) w ends counts tasks numbers₀ numbers
 
 abbrev μ-loop : tie.MeasureT-loop
-μ-loop rows count references shape w rests live lived ends counts unions tasks numbers₀ k₀ numbers k = count - k
+μ-loop rows count references shape w rests live lived ends counts mixed tasks numbers₀ k₀ numbers k = count - k
 
 -- where the row numbered k ends
 inside : (c : tie.In-loop Inv-loop μ-loop) → let w = c .before .before .before .before .before .before .before .before .before .before .args .w in (w * c .before .loop .k + w ≤ w * 32) × (w ≤ 32)

@@ -11,10 +11,11 @@ use Rattle.cache.proofs.Members.{in-word, out-word}
 use Rattle.model.specs.Tasks.{Block, Task, block}
 use Rattle.body.specs.Decode.{decode, taskOf}
 use Rattle.body.specs.Turned.{turned}
-use Rattle.body.proofs.Decoded.{few-bytes}
+use Rattle.body.proofs.Decoded.{few-bytes, blocks-real}
 use Rattle.body.proofs.JumpLaws.{WalkedTask, walked-task, in-unmasked}
 use Rattle.rows.proofs.Parts.{row-within}
 use Rattle.gather.specs.Memory.{heldRows}
+use Rattle.graphs.proofs.Listed.{block-real}
 use Rattle.points.specs.Points.{predecessorsOf}
 use Rattle.points.proofs.Rests.{lent-long}
 use Rattle.pairs.specs.Pairs.{Met}
@@ -27,12 +28,12 @@ use Rattle.task_pairs.proofs.meet_task.Statement.{statement}
 use Rattle.task_pairs.proofs.meet_task.Tie as tie
 
 abbrev Inv-loop : tie.InvT-loop
-Inv-loop body shape w reaching reached live lived ends counts unions tasks numbers₀ blocks starts before unmasked part b₀ numbers b =
+Inv-loop body shape w reaching reached live lived ends counts mixed tasks numbers₀ blocks starts before unmasked part b₀ numbers b =
     (b ≤ blocks) × (length numbers ≡ 8)
     × Met (taskMost (shaped w shape) (taskOf (decode body)) (heldRows w reaching reached) (heldRows w live lived) b 0) w ends counts tasks numbers₀ numbers
 
 abbrev μ-loop : tie.MeasureT-loop
-μ-loop body shape w reaching reached live lived ends counts unions tasks numbers₀ blocks starts before unmasked part b₀ numbers b = blocks - b
+μ-loop body shape w reaching reached live lived ends counts mixed tasks numbers₀ blocks starts before unmasked part b₀ numbers b = blocks - b
 
 -- the task of the body
 facts : (c : tie.After-walk Inv-loop μ-loop) → WalkedTask (c .before .before .before .before .before .before .before .before .before .before .args .body .now) (c .walk .result .blocks) (c .walk .result .starts)
@@ -134,6 +135,7 @@ meet-block-requires c κs =
     let low = below (c .before .before .before .before .before) in (
       start .pre .1,
       few-bytes (f .its) (f .bounds) (at .b) (c .before .before .before .references .result .now) (references-are (c .before .before .before)),
+      rw (references-are (c .before .before .before)) (block-real (f .its) (blocks-real (length (f .its)) (f .its) (f .bounds .each)) (at .b)),
       lent-long (32 * args .w) (at .b) 24 (args .live .now) low (start .pre .3 .long),
       start .pre .3 .few (at .b) low,
       start .pre .4,

@@ -1,4 +1,4 @@
--- `sets::replaced` meets its contract. The loop's invariant: the bits set are the replaced cache blocks of the chunks so far. Assumes nothing.
+-- `sets::replaced` meets its contract. A row of one chunk needs no loop. The loop's invariant: the bits set are the replaced cache blocks of the chunks so far. Assumes nothing.
 use mathlib.Core.Path.{_≡_, refl, ap, _∙_}
 use Prim.Native.Nat.{ℕ, _+_, _*_, _/_, _-_, _≤_}
 use native.Mathlib.Omega.{arith}
@@ -15,6 +15,12 @@ Inv-loop ending reaching set₀ h₀ h-end set h = (h ≤ length ending / 16) ×
 
 abbrev μ-loop : tie.MeasureT-loop
 μ-loop ending reaching set₀ h₀ h-end set h = length ending / 16 - h
+
+replaced-chunk-requires : tie.Need-replaced-chunk-requires Inv-loop μ-loop
+replaced-chunk-requires c κs = search needs
+
+returns : tie.Need-returns Inv-loop μ-loop
+returns c = rw (c .before .if1 .taken) (c .replaced-chunk .ensures)
 
 loop-holds : tie.Need-loop-holds Inv-loop μ-loop
 unfolding bits
@@ -53,8 +59,8 @@ part-replaced-chunk-start-2 c = search needs
 part-replaced-chunk-end-2 : tie.Need-part-replaced-chunk-end-2 Inv-loop μ-loop
 part-replaced-chunk-end-2 c = search needs
 
-replaced-chunk-requires : tie.Need-replaced-chunk-requires Inv-loop μ-loop
-replaced-chunk-requires c κs = (simp (length-take, length-drop) (omega arith), simp (length-take, length-drop) (omega arith))
+replaced-chunk-requires-2 : tie.Need-replaced-chunk-requires-2 Inv-loop μ-loop
+replaced-chunk-requires-2 c κs = (simp (length-take, length-drop) (omega arith), simp (length-take, length-drop) (omega arith))
 
 cast-set : tie.Need-cast-set Inv-loop μ-loop
 cast-set c = search needs
@@ -71,19 +77,19 @@ loop-less c = search needs
 loop-again : tie.Need-loop-again Inv-loop μ-loop
 loop-again c =
     let at = c .before .before .before .before .loop in
-    let start = c .before .before .before .before .before .before .before in
+    let start = c .before .before .before .before .before .before .before .before in
     let f = start .args .ending .now in
     let r = start .args .reaching .now in
     let next : 16 * at .h + 16 ≡ 16 * (at .h + 1) = omega arith in (
       omega arith,
-      bits-chunk 32 (16 * at .h) 16 (replaces f r) _ (omega arith) (λ i b. replaced-chunk (16 * at .h) 16 i f r b) (at .inv .1) (c .replaced-chunk .ensures) refl
+      bits-chunk 32 (16 * at .h) 16 (replaces f r) _ (omega arith) (λ i b. replaced-chunk (16 * at .h) 16 i f r b) (at .inv .1) (c .replaced-chunk2 .ensures) refl
           ∙ ap (λ (k : ℕ). bits k (replaces f r)) next,
     )
 
-returns : tie.Need-returns Inv-loop μ-loop
-returns c =
+returns-2 : tie.Need-returns-2 Inv-loop μ-loop
+returns-2 c =
     let at = c .before .loop in
-    let start = c .before .before .before .before in
+    let start = c .before .before .before .before .before in
     let end : 16 * at .h ≡ length (start .args .ending .now) = omega arith in
     at .inv .1 ∙ ap (λ (k : ℕ). bits k (replaces (start .args .ending .now) (start .args .reaching .now))) end
 
@@ -93,6 +99,8 @@ replaced-spec =
     (tie.spec
     Inv-loop
     μ-loop
+    replaced-chunk-requires
+    returns
     loop-holds
     mul-at
     add-replaced-chunk
@@ -105,10 +113,10 @@ replaced-spec =
     sub-replaced-chunk-2
     part-replaced-chunk-start-2
     part-replaced-chunk-end-2
-    replaced-chunk-requires
+    replaced-chunk-requires-2
     cast-set
     shl-set
     add-h
     loop-less
     loop-again
-    returns)
+    returns-2)

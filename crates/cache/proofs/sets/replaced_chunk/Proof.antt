@@ -8,7 +8,7 @@ use borrow.Author.Needs.{needs}
 use borrow.Author.Tests.{eq-eqb, ne-eqb}
 use Rattle.cache.specs.References.{nothing}
 use Rattle.cache.specs.Sets.{replaces, bits}
-use Rattle.cache.proofs.Bits.{bits-set, bits-skip}
+use Rattle.cache.proofs.Bits.{bits-joined, bits-kept}
 use Rattle.cache.proofs.Cells.{replaced-cells}
 use Rattle.cache.proofs.sets.replaced_chunk.Statement.{statement}
 use Rattle.cache.proofs.sets.replaced_chunk.Tie as tie
@@ -29,17 +29,17 @@ mul-m c = search needs
 shared-slice-read-m : tie.Need-shared-slice-read-m Inv-loop μ-loop
 shared-slice-read-m c = search needs
 
-mul-old : tie.Need-mul-old Inv-loop μ-loop
-mul-old c = search needs
+mul-if1 : tie.Need-mul-if1 Inv-loop μ-loop
+mul-if1 c = search needs
 
-shared-slice-read-old : tie.Need-shared-slice-read-old Inv-loop μ-loop
-shared-slice-read-old c = search needs
+shared-slice-read-if1 : tie.Need-shared-slice-read-if1 Inv-loop μ-loop
+shared-slice-read-if1 c = search needs
 
-cast-set : tie.Need-cast-set Inv-loop μ-loop
-cast-set c = search needs
+cast-other : tie.Need-cast-other Inv-loop μ-loop
+cast-other c = search needs
 
-shl-set : tie.Need-shl-set Inv-loop μ-loop
-shl-set c = search needs
+shl-other : tie.Need-shl-other Inv-loop μ-loop
+shl-other c = search needs
 
 add-c : tie.Need-add-c Inv-loop μ-loop
 add-c c = search needs
@@ -50,21 +50,21 @@ loop-less c = search needs
 loop-again : tie.Need-loop-again Inv-loop μ-loop
 unfolding nothing
 loop-again c =
-    let at = c .before .before .before .before .loop in
-    let args = c .before .before .before .before .before .args in
+    let at = c .before .before .before .before .before .before .loop in
+    let args = c .before .before .before .before .before .before .before .args in
     let f = args .ending .now in
     let r = args .reaching .now in
     let below : at .c + 1 ≤ 16 = omega arith in
     let test = replaced-cells f r (at .c) (omega arith) (omega arith) in
-    let set = bits-set 32 (at .c) (replaces f r) (omega arith) (at .inv .1) in
-    let skip = bits-skip (at .c) (replaces f r) (at .inv .1) in (
+    let joined = bits-joined 32 (at .c) (replaces f r) (omega arith) (at .inv .1) in
+    let kept = bits-kept (at .c) (replaces f r) (at .inv .1) in (
       below,
-      ⊎-elim (λ w. set (test true true (ap not (ne-eqb _ _ (w .0 .taken))) (w .1 .taken)) (w .2))
+      ⊎-elim (λ w. kept (test false _ (ap not (eq-eqb _ _ (w .0 .taken))) refl) (w .1))
           (λ w.
-          ⊎-elim (λ v. skip (test true false (ap not (ne-eqb _ _ (v .0 .taken))) (v .1 .left)) (w .1))
-          (λ v. skip (test false _ (ap not (eq-eqb _ _ (v .left))) refl) (w .1))
-          (w .0 .came))
-          (c .if1 .came),
+          ⊎-elim (λ v. kept (test true false (ap not (ne-eqb _ _ (w .0 .left))) (ap not (eq-eqb _ _ (v .0 .taken)))) (w .1 ∙ v .1))
+          (λ v. joined (test true true (ap not (ne-eqb _ _ (w .0 .left))) (ap not (ne-eqb _ _ (v .0 .left)))) (w .1 ∙ v .1))
+          (c .before .before .if1 .came))
+          (c .before .if2 .came),
     )
 
 returns : tie.Need-returns Inv-loop μ-loop
@@ -83,10 +83,10 @@ replaced-chunk-spec =
     loop-holds
     mul-m
     shared-slice-read-m
-    mul-old
-    shared-slice-read-old
-    cast-set
-    shl-set
+    mul-if1
+    shared-slice-read-if1
+    cast-other
+    shl-other
     add-c
     loop-less
     loop-again

@@ -87,7 +87,7 @@ run-calls t = (
 
 -- the file's cache fits into a row
 holds : (s : List ℕ) → accepted (readingOf s) ≡ true → {shape : CacheShape} → shape ≡ fileShape s → Holds 32 shape
-holds s h e = file-holds 32 (omega arith) s (accepted-passed s _ _ (reading s h) .0) (ap (λ (x : CacheShape). x .blocks) e)
+holds s h e = file-holds 32 (omega arith) s (accepted-passed s _ _ (reading s h) .0) e
 
 -- ---- the list
 

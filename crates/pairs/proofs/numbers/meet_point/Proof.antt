@@ -73,8 +73,8 @@ returns-2 c =
     let start = c .before .before .before .before .before .before .before .before .before .before .before in
     let args = start .args in
     let row = args .row .now in
-    met-as-is row (args .rest .now) (args .ends .now) (args .counts .now) (args .unions .now) (args .numbers .now) (rowsOf (length row) (args .lived) (args .live .now)) (args .tasks)
-    (start .pre .0) (c .before .before .before .kept .ensures) (sym (c .before .may-raise-some .ensures) ∙ c .if1 .left)
+    met-as-is row (args .rest .now) (args .ends .now) (args .counts .now) (args .numbers .now) (rowsOf (length row) (args .lived) (args .live .now)) (args .tasks)
+    (c .before .before .before .kept .ensures) (sym (c .before .may-raise-some .ensures) ∙ c .if1 .left)
 
 pub meet-point-spec : {M : Type 1} → statement M
 meet-point-spec =

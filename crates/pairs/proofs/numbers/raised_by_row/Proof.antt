@@ -3,13 +3,14 @@
 use mathlib.Core.Path.{_≡_, ap, _∙_}
 use mathlib.Core.List.{List}
 use Prim.Native.Nat.{ℕ, max}
+use native.Mathlib.Omega.{arith}
 use borrow.Author.Needs.{needs}
 use lib.ListN.{length}
 use Rattle.rows.specs.Rows.{rowsOf}
 use Rattle.rows.proofs.Parts.{lent-first}
 use Rattle.pairs.specs.Pairs.{setsMost, pointMost, usefulMost}
-use Rattle.pairs.proofs.ReplacedSets.{stays-used, stays-replaced}
-use Rattle.pairs.proofs.UsefulSets.{useful-most, sizes-ones, part-bounded}
+use Rattle.pairs.proofs.ReplacedSets.{stays-replaced}
+use Rattle.pairs.proofs.UsefulSets.{useful-most, sizes-ones, part-bounded, most-of-all}
 use Rattle.pairs.proofs.numbers.raised_by_row.Statement.{statement}
 use Rattle.pairs.proofs.numbers.raised_by_row.Tie as tie
 
@@ -28,24 +29,23 @@ common-requires c κs = search needs
 returns : tie.Need-returns
 returns c =
     let start = c .before .before .before .before .before .before in
-    stays-used (start .args .row .now) (start .pre .1 .rest) (start .pre .1 .lives) (ends start) (start .args .number) (start .pre .1 .kept-is) (c .if1 .taken) (c .before .common .ensures) (start .pre .4)
+    stays-replaced (start .args .row .now) (start .pre .1 .rest) (start .pre .1 .lives) (ends start) (start .args .number) (start .pre .1 .kept-is) (c .if1 .taken) (c .before .common .ensures) (start .pre .4)
     ∙ same start
+
+most-common-requires : tie.Need-most-common-requires
+most-common-requires c κs = search needs
+
+returns-2 : tie.Need-returns-2
+returns-2 c =
+    let start = c .before .before .before .before .before .before .before .before in
+    let few = most-of-all (start .args .row .now) (start .args .held) (start .args .useful .now) (start .args .sizes .now) (start .pre .1) (ends start) (start .pre .4) in
+    omega (arith, few, c .if2 .taken, c .before .most-common .ensures)
 
 slice-aggregate-replaced-sets : tie.Need-slice-aggregate-replaced-sets
 slice-aggregate-replaced-sets c = search needs
 
 replaced-sets-requires : tie.Need-replaced-sets-requires
 replaced-sets-requires c κs = search needs
-
-common-requires-2 : tie.Need-common-requires-2
-common-requires-2 c κs = search needs
-
-returns-2 : tie.Need-returns-2
-returns-2 c =
-    let start = c .before .before .before .before .before .before .before .before .before .before .before in
-    stays-replaced (start .args .row .now) (start .pre .1 .rest) (start .pre .1 .lives) (ends start) (start .args .number) (start .pre .1 .kept-is) (c .if2 .taken) (c .before .common2 .ensures)
-    (c .before .before .before .replaced-sets .ensures .3)
-    ∙ same start
 
 sub-raised-by-sets : tie.Need-sub-raised-by-sets
 sub-raised-by-sets c = search needs
@@ -59,18 +59,18 @@ part-raised-by-sets-end c = search needs
 raised-by-sets-requires : tie.Need-raised-by-sets-requires
 raised-by-sets-requires c κs =
     let start = c .before .before .before .before .before .before .before .before .before .before .before .before .before in
-    let found = c .before .before .before .before .before .replaced-sets in
+    let found = c .before .before .before .replaced-sets in
     let part = lent-first (start .args .count) (found .last .1 .1 .1 .0) ∙ found .ensures .1 in
     let row = start .args .row .now in
     let held = start .args .held in
     let us = start .args .useful .now in
     let sizes = start .args .sizes .now in
-    (sizes-ones row held us sizes (start .pre .1), part-bounded row held us sizes (start .pre .1) (ends start) part (found .ensures .3))
+    (sizes-ones row held us sizes (start .pre .1), part-bounded row held us sizes (start .pre .1) (ends start) part (start .pre .4))
 
 returns-3 : tie.Need-returns-3
 returns-3 c =
     let start = c .before .before .before .before .before .before .before .before .before .before .before .before .before .before in
-    let found = c .before .before .before .before .before .before .replaced-sets in
+    let found = c .before .before .before .before .replaced-sets in
     let part = lent-first (start .args .count) (found .last .1 .1 .1 .0) ∙ found .ensures .1 in
     c .raised-by-sets .ensures ∙ ap (λ (vs : List ℕ). max (start .args .number) (setsMost (start .args .useful .now) vs)) part
 
@@ -80,10 +80,10 @@ raised-by-row-spec =
     (tie.spec
     common-requires
     returns
+    most-common-requires
+    returns-2
     slice-aggregate-replaced-sets
     replaced-sets-requires
-    common-requires-2
-    returns-2
     sub-raised-by-sets
     part-raised-by-sets-start
     part-raised-by-sets-end

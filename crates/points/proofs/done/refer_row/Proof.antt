@@ -1,18 +1,21 @@
--- `done::refer_row` meets its contract: the reference is stored where the mapping takes it. Assumes nothing.
+-- `done::refer_row` meets its contract: the reference goes to a place of the row. Assumes nothing.
 use mathlib.Core.Path.{_≡_, sym, ap, ap₂, _∙_}
-use Prim.Native.Nat.{ℕ, _%_}
+use Prim.Native.Nat.{_<_}
 use native.Mathlib.Nat.{mod-lt}
 use native.Mathlib.Omega.{arith}
-use lib.ListN.{getD, set}
+use lib.ListN.{length, getD, set}
 use Rattle.cache.specs.References.{numbers}
+use Rattle.cache.specs.Shape.{shaped}
 use Rattle.cache.proofs.NumberLaws.{getD-numbers}
 use borrow.Author.Needs.{needs}
 use Rattle.points.proofs.done.refer_row.Statement.{statement}
 use Rattle.points.proofs.done.refer_row.Tie as tie
 
--- where the reference goes
-at-place : (c : tie.After-index) → c .index .result ≡ (c .before .before .new .result .0) % (c .before .before .before .before .before .before .args .shape .blocks)
-at-place c = c .index .ensures ∙ c .before .cache-block .ensures
+-- the reference goes to a place of the row
+placed : (c : tie.After-cache-block) → c .cache-block .result .0 < length (c .before .before .before .before .before .before .args .row .now)
+placed c =
+    let start = c .before .before .before .before .before .before in
+    omega (arith, c .cache-block .ensures, mod-lt (c .before .before .new .result .0) (start .pre .1 .some), start .pre .1 .room)
 
 mul-number-at : tie.Need-mul-number-at
 mul-number-at c = search needs
@@ -26,28 +29,22 @@ new-requires c κs = search needs
 cache-block-requires : tie.Need-cache-block-requires
 cache-block-requires c κs = search needs
 
-index-requires : tie.Need-index-requires
-index-requires c κs = search needs
-
-number-requires : tie.Need-number-requires
-number-requires c κs = search needs
-
-mul-row : tie.Need-mul-row
-mul-row c = search needs
-
-slice-write-row : tie.Need-slice-write-row
-slice-write-row c = let start = c .before .before .before .before .before .before .before in omega (arith, at-place (c .before), mod-lt (c .before .before .before .new .result .0) (start .pre .1 .some), start .pre .1 .room)
+with-reference-requires : tie.Need-with-reference-requires
+with-reference-requires c κs = placed c
 
 same-length : tie.Need-same-length
 same-length c = search needs
 
 returns : tie.Need-returns
 returns c =
-    let start = c .before .before .before .before .before .before .before in
-    let m : c .number .result ≡ getD (numbers (start .args .references .now)) (start .args .i) 0
-    = c .number .ensures ∙ c .before .before .before .new .ensures ∙ c .before .before .before .before .number-at .ensures ∙ sym (getD-numbers (start .args .references .now) (start .args .i) (omega (arith, start .pre .0))) in
-    let same = sym (c .number .ensures) ∙ m in
-    ap₂ (λ (c v : ℕ). set (start .args .row .now) c v) (at-place (c .before) ∙ ap (λ (v : ℕ). v % start .args .shape .blocks) same) m
+    let found = c .before .before .before in
+    let start = found .before .before .before .before .before .before in
+    let s = start .args .references .now in
+    let i = start .args .i in
+    let m : found .before .before .new .result .0 ≡ getD (numbers s) i 0
+    = found .before .before .new .ensures ∙ found .before .before .before .number-at .ensures ∙ sym (getD-numbers s i (omega (arith, start .pre .0))) in
+    c .before .before .with-reference .ensures
+    ∙ ap₂ (set (start .args .row .now)) (found .cache-block .ensures ∙ ap (shaped (length (start .args .row .now)) (start .args .shape) .place) m) m
 
 pub refer-row-spec : {M : Type 1} → statement M
 refer-row-spec =
@@ -57,9 +54,6 @@ refer-row-spec =
     number-at-requires
     new-requires
     cache-block-requires
-    index-requires
-    number-requires
-    mul-row
-    slice-write-row
+    with-reference-requires
     same-length
     returns)

@@ -1,28 +1,32 @@
 -- `contents::contents` meets its contract. The loop's invariant: before task j the ends up to the begin of its body are there, and what is left of the contents
 -- fits just where the whole does. Assumes nothing.
-use mathlib.Core.Path.{_≡_, sym, ap, _∙_}
+use mathlib.Core.Path.{_≡_, sym, ap, ap₂, _∙_}
 use Prim.Native.Nat.{_+_, _*_, _-_, _≤_}
 use native.Mathlib.Omega.{arith}
 use lib.Seq.{take-all}
 use lib.ListN.{length, getD, take}
 use borrow.Author.Tests.{eq-eqb, ne-eqb}
 use borrow.Author.Needs.{needs}
+use Rattle.project.specs.File.{edition, bodiesStart}
 use Rattle.project.specs.Reading.{contentsFit}
 use Rattle.project.specs.Ends.{endsFrom, nine}
-use Rattle.project.proofs.ContentsLaws.{length-ends, ends-first, ends-turn, nine-start, nine-turn, fit-turn, fit-wrong, fit-end, answer-fit, answer-none, too-short}
+use Rattle.project.proofs.ContentsLaws.{length-ends, ends-first, ends-turn, nine-start, nine-turn, fit-turn, fit-wrong, fit-end, offset-by, size-by, answer-fit, answer-none, too-short}
 use Rattle.project.proofs.contents.contents.Statement.{statement}
 use Rattle.project.proofs.contents.contents.Tie as tie
 
 abbrev Inv-loop : tie.InvT-loop
-Inv-loop file t none at₀ ends₀ j₀ at ends j =
+Inv-loop file t none start at₀ ends₀ j₀ at ends j =
     (j ≤ t)
-    × (at ≤ 8 + 4 * t + 65535 * j)
-    × (at ≡ getD (endsFrom file t 0 (8 + 4 * t)) j 0)
-    × (ends ≡ nine (take (j + 1) (endsFrom file t 0 (8 + 4 * t))))
-    × (contentsFit file (t - j) j at ≡ contentsFit file t 0 (8 + 4 * t))
+    × (at ≤ 1028 + 4 * t + 65535 * j)
+    × (at ≡ getD (endsFrom file t 0 (bodiesStart (edition file) t)) j 0)
+    × (ends ≡ nine (take (j + 1) (endsFrom file t 0 (bodiesStart (edition file) t))))
+    × (contentsFit file (t - j) j at ≡ contentsFit file t 0 (bodiesStart (edition file) t))
 
 abbrev μ-loop : tie.MeasureT-loop
-μ-loop file t none at₀ ends₀ j₀ at ends j = t - j
+μ-loop file t none start at₀ ends₀ j₀ at ends j = t - j
+
+contents-start-requires : tie.Need-contents-start-requires Inv-loop μ-loop
+contents-start-requires c κs = search needs
 
 mul-at : tie.Need-mul-at Inv-loop μ-loop
 mul-at c = search needs
@@ -32,24 +36,25 @@ add-at c = search needs
 
 returns : tie.Need-returns Inv-loop μ-loop
 returns c =
-    let args = c .before .before .args in
-    answer-none (args .file .now) (args .t) (too-short (args .file .now) (args .t) (c .if1 .taken))
+    let args = c .before .before .before .args in
+    answer-none (args .file .now) (args .t) (too-short (args .file .now) (args .t) (omega (arith, c .if1 .taken, c .before .contents-start .ensures .0)))
 
 array-write-ends : tie.Need-array-write-ends Inv-loop μ-loop
 array-write-ends c = search needs
 
 loop-holds : tie.Need-loop-holds Inv-loop μ-loop
 loop-holds c =
-    let args = c .before .before .args in
+    let args = c .before .before .before .args in
     let s = args .file .now in
-    let from = 8 + 4 * args .t in
-    let e = sym (ends-first s (args .t) 0 from) in
+    let from = bodiesStart (edition s) (args .t) in
+    let first = ap (λ k. k + 4 * args .t) (c .before .contents-start .ensures .0) in
+    let e = first ∙ sym (ends-first s (args .t) 0 from) in
     let all : args .t - 0 ≡ args .t = omega arith in (
       omega arith,
       omega arith,
       e,
       nine-start (endsFrom s (args .t) 0 from) (rw (length-ends s (args .t) 0 from) (omega arith)) e,
-      ap (λ k. contentsFit s k 0 from) all,
+      ap₂ (λ k a. contentsFit s k 0 a) all first,
     )
 
 mul-entry : tie.Need-mul-entry Inv-loop μ-loop
@@ -67,9 +72,9 @@ cast-if2 c = search needs
 returns-2 : tie.Need-returns-2 Inv-loop μ-loop
 returns-2 c =
     let at = c .before .before .before .loop in
-    let args = c .before .before .before .before .before .before .args in
+    let args = c .before .before .before .before .before .before .before .args in
     let s = args .file .now in
-    let wrong = fit-wrong s (args .t) (at .j) (at .at) (omega arith) (λ e. c .if2 .taken (c .before .number-at .ensures ∙ e)) in
+    let wrong = fit-wrong s (args .t) (at .j) (at .at) (omega arith) (λ e. c .if2 .taken (c .before .number-at .ensures ∙ offset-by s (at .j) (c .before .before .before .before .before .contents-start .ensures .0) ∙ e)) in
     answer-none s (args .t) (sym (at .inv .4) ∙ wrong)
 
 add-number-at : tie.Need-add-number-at Inv-loop μ-loop
@@ -102,12 +107,13 @@ loop-less c = search needs
 loop-again : tie.Need-loop-again Inv-loop μ-loop
 loop-again c =
     let at = c .before .before .before .before .loop in
-    let args = c .before .before .before .before .before .before .before .args in
+    let args = c .before .before .before .before .before .before .before .before .args in
     let s = args .file .now in
-    let from = 8 + 4 * args .t in
+    let from = bodiesStart (edition s) (args .t) in
     let all = endsFrom s (args .t) 0 from in
-    let offset = sym (c .before .before .number-at .ensures) ∙ c .before .if2 .left in
-    let size = ap (λ k. at .at + k) (c .number-at2 .ensures) in
+    let start = c .before .before .before .before .before .before .contents-start .ensures .0 in
+    let offset = sym (c .before .before .number-at .ensures ∙ offset-by s (at .j) start) ∙ c .before .if2 .left in
+    let size = ap (λ k. at .at + k) (c .number-at2 .ensures ∙ size-by s (at .j) start) in
     let next = ends-turn s (args .t) from (at .j) (omega arith) (at .inv .2) size in (
       omega arith,
       omega arith,
@@ -119,19 +125,19 @@ loop-again c =
 returns-3 : tie.Need-returns-3 Inv-loop μ-loop
 returns-3 c =
     let at = c .before .before .loop in
-    let args = c .before .before .before .before .before .args in
+    let args = c .before .before .before .before .before .before .args in
     let s = args .file .now in
     answer-none s (args .t) (sym (at .inv .4) ∙ fit-end s (args .t) (at .j) (at .at) (omega arith) ∙ ne-eqb (at .at) (length s) (c .if3 .taken))
 
 returns-4 : tie.Need-returns-4 Inv-loop μ-loop
 returns-4 c =
     let at = c .before .before .loop in
-    let args = c .before .before .before .before .before .args in
+    let args = c .before .before .before .before .before .before .args in
     let s = args .file .now in
-    let all = endsFrom s (args .t) 0 (8 + 4 * args .t) in
+    let all = endsFrom s (args .t) 0 (bodiesStart (edition s) (args .t)) in
     answer-fit s (args .t)
     (sym (at .inv .4) ∙ fit-end s (args .t) (at .j) (at .at) (omega arith) ∙ eq-eqb (at .at) (length s) (c .if3 .left))
-    (at .inv .3 ∙ ap nine (take-all (at .j + 1) all (rw (length-ends s (args .t) 0 (8 + 4 * args .t)) (omega arith))))
+    (at .inv .3 ∙ ap nine (take-all (at .j + 1) all (rw (length-ends s (args .t) 0 (bodiesStart (edition s) (args .t))) (omega arith))))
 
 pub contents-spec : {M : Type 1} → statement M
 contents-spec =
@@ -139,6 +145,7 @@ contents-spec =
     (tie.spec
     Inv-loop
     μ-loop
+    contents-start-requires
     mul-at
     add-at
     returns

@@ -7,7 +7,6 @@ use lib.ListN.{length}
 use Rattle.cache.specs.References.{All}
 use Rattle.cache.specs.Cache.{withReferences}
 use Rattle.cache.specs.Shape.{shaped}
-use Rattle.cache.specs.declared.blocks.CacheShape.{CacheShape}
 use Rattle.model.specs.Tasks.{Task, references}
 use Rattle.model.specs.Runs.{RowCount}
 use Rattle.model.proofs.RunEvents.{own-row}
@@ -35,7 +34,7 @@ run-path-requires c κs =
         kept = body-kept file (start .args .j) at part;
         below = subst (λ (t : Task). All (λ b. b < length t) (start .args .path .now)) (sym (body-task file (start .args .j) at part)) (start .pre .3);
       },
-      file-holds 32 (omega arith) file (accepted-passed file _ _ (reading file (start .pre .0)) .0) (ap (λ (x : CacheShape). x .blocks) (start .pre .2)),
+      file-holds 32 (omega arith) file (accepted-passed file _ _ (reading file (start .pre .0)) .0) (start .pre .2),
       start .pre .4,
       omega (arith, start .pre .5),
     )

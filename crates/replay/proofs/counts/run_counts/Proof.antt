@@ -5,7 +5,6 @@ use native.Mathlib.Omega.{arith}
 use borrow.Author.Needs.{needs}
 use lib.ListN.{length}
 use Rattle.cache.specs.Shape.{Holds, shaped}
-use Rattle.cache.specs.declared.blocks.CacheShape.{CacheShape}
 use Rattle.body.specs.Decode.{decode, taskOf}
 use Rattle.project.proofs.Accepted.{accepted-passed, file-holds}
 use Rattle.reader.proofs.TaskBodies.{reading}
@@ -32,7 +31,7 @@ facts c = sheet-facts (c .args .file .now) (c .args .sheet .now) (c .pre .0 .rul
 holds : (c : tie.Start Inv-loop μ-loop) → Holds 32 (c .args .shape)
 holds c =
     let file = c .args .file .now in
-    file-holds 32 (omega arith) file (accepted-passed file _ _ (reading file (c .pre .0 .rules .file)) .0) (ap (λ (x : CacheShape). x .blocks) (c .pre .1))
+    file-holds 32 (omega arith) file (accepted-passed file _ _ (reading file (c .pre .0 .rules .file)) .0) (c .pre .1)
 
 -- the own task and the own path
 task-is : (c : tie.After-path Inv-loop μ-loop)

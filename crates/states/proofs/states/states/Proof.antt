@@ -1,6 +1,5 @@
 -- `states::states` meets its contract: each way out is that of the first check that fails, or of none. Assumes nothing.
 use mathlib.Core.Path.{refl, sym, ap, _∙_}
-use Prim.Native.Nat.{ℕ}
 use native.Mathlib.Omega.{arith}
 use Rattle.project.specs.Bodies.{accepted}
 use Rattle.project.proofs.Accepted.{accepted-passed, file-holds}
@@ -23,18 +22,22 @@ enum-known-check c = search needs
 refuse-requires : tie.Need-refuse-requires
 refuse-requires c κs = search needs
 
-enum-known-n : tie.Need-enum-known-n
-enum-known-n c = search needs
+enum-known-t : tie.Need-enum-known-t
+enum-known-t c = search needs
 
 cast-if2 : tie.Need-cast-if2
 cast-if2 c = search needs
 
+file-shape-requires : tie.Need-file-shape-requires
+file-shape-requires c κs = ap accepted (sym (c .before .before .before .before .read .ensures) ∙ c .before .before .t .given .1)
+
 fill-task-requires : tie.Need-fill-task-requires
 fill-task-requires c κs =
-    let start = c .before .before .before .before .before .before .before .before .before in
-    let e = sym (c .before .before .before .before .before .read .ensures) ∙ c .before .before .before .n .given .1 in
+    let start = c .before .before .before .before .before .before .before .before .before .before in
+    let e = sym (c .before .before .before .before .before .before .read .ensures) ∙ c .before .before .before .before .t .given .1 in
     let is = accepted-passed (start .args .file .now) _ _ e in
-    (ap accepted e, ap (λ (n : ℕ). record { blocks = n }) (is .1), file-holds 16 (omega arith) (start .args .file .now) (is .0) (is .1), record { chunks = refl; narrow = omega arith }, omega (arith, is .2), c .before .before .before .before .before .before .if1 .left)
+    let shape = c .before .file-shape .ensures in
+    (ap accepted e, shape, file-holds 16 (omega arith) (start .args .file .now) (is .0) shape, record { chunks = refl; narrow = omega arith }, omega (arith, is .2), c .before .before .before .before .before .before .before .if1 .left)
 
 same-length : tie.Need-same-length
 same-length c = search needs
@@ -59,7 +62,7 @@ same-length-3 c = search needs
 returns-4 : tie.Need-returns-4
 returns-4 c =
     let args = c .before .before .before .before .before .before .before .before .before .before .before .before .args in
-    no-task 16 (args .file .now) (args .task) (args .area .now) (c .before .before .before .before .before .before .before .before .before .if1 .left) (sym (c .before .before .before .before .before .before .before .before .read .ensures) ∙ c .before .before .before .before .before .before .n .given .1) (omega arith) (c .before .before .refuse2 .ensures)
+    no-task 16 (args .file .now) (args .task) (args .area .now) (c .before .before .before .before .before .before .before .before .before .if1 .left) (sym (c .before .before .before .before .before .before .before .before .read .ensures) ∙ c .before .before .before .before .before .before .t .given .1) (omega arith) (c .before .before .refuse2 .ensures)
 
 pub states-spec : {M : Type 1} → statement M
 states-spec =
@@ -69,8 +72,9 @@ states-spec =
     read-requires
     enum-known-check
     refuse-requires
-    enum-known-n
+    enum-known-t
     cast-if2
+    file-shape-requires
     fill-task-requires
     same-length
     returns-2

@@ -12,18 +12,17 @@ use Rattle.reader.proofs.TaskBodies.{task-body as of-task}
 use Rattle.rows.specs.Rows.{kindLength, areaLength}
 use Rattle.rows.proofs.Parts.{row-within}
 use Rattle.graphs.proofs.Gathered.{first-wide, half-long}
-use Rattle.pairs.proofs.ReplacedSets.{lent-long}
 use Rattle.table.specs.Found.{TaskEnds, EndsFound, NoOthers}
-use Rattle.table.proofs.EndLaws.{grown-ends, lent-again-long, ends-none, ends-turn, others-none, others-turn}
+use Rattle.table.proofs.EndLaws.{part-long, grown-ends, ends-none, ends-turn, others-none, others-turn}
 use Rattle.table.proofs.ends.find_ends.Statement.{statement}
 use Rattle.table.proofs.ends.find_ends.Tie as tie
 
 abbrev Inv-loop : tie.InvT-loop
-Inv-loop file shape w tasks area₀ ends₀ counts₀ unions₀ part kind j₀ area ends counts unions j =
-    (j ≤ tasks) × (length area ≡ areaLength w) × EndsFound (shaped w shape) (tasksOf file) j ends counts unions × NoOthers (shaped w shape) (tasksOf file) j counts
+Inv-loop file shape w tasks area₀ ends₀ counts₀ mixed₀ part kind j₀ area ends counts mixed j =
+    (j ≤ tasks) × (length area ≡ areaLength w) × EndsFound (shaped w shape) (tasksOf file) j ends counts mixed × NoOthers (shaped w shape) (tasksOf file) j counts
 
 abbrev μ-loop : tie.MeasureT-loop
-μ-loop file shape w tasks area₀ ends₀ counts₀ unions₀ part kind j₀ area ends counts unions j = tasks - j
+μ-loop file shape w tasks area₀ ends₀ counts₀ mixed₀ part kind j₀ area ends counts mixed j = tasks - j
 
 -- the task numbered j is one of the file
 the-task : (c : tie.In-loop Inv-loop μ-loop) → TaskBody (c .before .before .before .before .before .before .before .args .file .now) (c .before .loop .j)
@@ -100,7 +99,7 @@ task-ends-requires c κs =
       start .pre .2,
       start .pre .3,
       first-wide (24 * (32 * start .args .w)) (at .area) (omega (arith, at .inv .1)),
-      lent-long (32 * start .args .w) (at .j) 8 (at .ends) (inside (c .before .before .before) .2) (at .inv .2 .room .long),
+      part-long (start .args .w) (at .j) (at .ends) (inside (c .before .before .before) .2) (at .inv .2 .room .long),
     )
 
 mul-counts : tie.Need-mul-counts Inv-loop μ-loop
@@ -109,20 +108,8 @@ mul-counts c = omega (arith, inside (c .before .before .before .before .before .
 slice-write-counts : tie.Need-slice-write-counts Inv-loop μ-loop
 slice-write-counts c = omega (arith, inside (c .before .before .before .before .before .before .before .before), c .before .before .before .before .before .before .before .before .before .loop .inv .2 .room .many)
 
-add-used-union : tie.Need-add-used-union Inv-loop μ-loop
-add-used-union c = omega (arith, inside (c .before .before .before .before .before .before .before .before))
-
-mul-used-union : tie.Need-mul-used-union Inv-loop μ-loop
-mul-used-union c = omega (arith, inside (c .before .before .before .before .before .before .before .before))
-
-sub-used-union : tie.Need-sub-used-union Inv-loop μ-loop
-sub-used-union c = search needs
-
-part-used-union-start : tie.Need-part-used-union-start Inv-loop μ-loop
-part-used-union-start c = search needs
-
-part-used-union-end : tie.Need-part-used-union-end Inv-loop μ-loop
-part-used-union-end c =
+join-task-requires : tie.Need-join-task-requires Inv-loop μ-loop
+join-task-requires c κs =
     let start = c .before .before .before .before .before .before .before .before .before .before .before .before .before .before .before .before in
     let at = c .before .before .before .before .before .before .before .before .before .before .loop in
     let after = c .before .before .before .before .before in
@@ -131,25 +118,13 @@ part-used-union-end c =
     let part = after .task-ends .last .1 .1 .1 .1 .0 in
     let count = after .task-ends .result in
     let below = inside (c .before .before .before .before .before .before .before .before .before) .2 in
-    omega (arith, inside (c .before .before .before .before .before .before .before .before .before), grown-ends k ts (at .j) (at .ends) (at .counts) (at .unions) part count below (at .inv .2) (found after))
+    (start .pre .3, grown-ends k ts (at .j) (at .ends) (at .counts) (at .mixed) part count below (at .inv .2) (found after), below, found after .few)
 
-used-union-requires : tie.Need-used-union-requires Inv-loop μ-loop
-used-union-requires c κs =
-    let start = c .before .before .before .before .before .before .before .before .before .before .before .before .before .before .before .before .before in
-    let at = c .before .before .before .before .before .before .before .before .before .before .before .loop in
-    let after = c .before .before .before .before .before .before in
-    let k = shaped (start .args .w) (start .args .shape) in
-    let ts = tasksOf (start .args .file .now) in
-    let part = after .task-ends .last .1 .1 .1 .1 .0 in
-    let count = after .task-ends .result in
-    let below = inside (c .before .before .before .before .before .before .before .before .before .before) .2 in
-    (found after .few, start .pre .3, lent-again-long k ts (at .j) (at .ends) (at .counts) (at .unions) part count below (at .inv .2) (found after))
+mul-mixed : tie.Need-mul-mixed Inv-loop μ-loop
+mul-mixed c = omega (arith, inside (c .before .before .before .before .before .before .before .before .before .before .before .before))
 
-mul-unions : tie.Need-mul-unions Inv-loop μ-loop
-mul-unions c = omega (arith, inside (c .before .before .before .before .before .before .before .before .before .before .before))
-
-slice-write-unions : tie.Need-slice-write-unions Inv-loop μ-loop
-slice-write-unions c = omega (arith, inside (c .before .before .before .before .before .before .before .before .before .before .before), c .before .before .before .before .before .before .before .before .before .before .before .before .loop .inv .2 .room .each)
+slice-write-mixed : tie.Need-slice-write-mixed Inv-loop μ-loop
+slice-write-mixed c = omega (arith, inside (c .before .before .before .before .before .before .before .before .before .before .before .before), c .before .before .before .before .before .before .before .before .before .before .before .before .before .loop .inv .2 .room .each)
 
 add-j : tie.Need-add-j Inv-loop μ-loop
 add-j c = search needs
@@ -159,19 +134,20 @@ loop-less c = search needs
 
 loop-again : tie.Need-loop-again Inv-loop μ-loop
 loop-again c =
-    let start = c .before .before .before .before .before .before .before .before .before .before .before .before .before .before .before .before .before .before in
-    let at = c .before .before .before .before .before .before .before .before .before .before .before .before .loop in
-    let after = c .before .before .before .before .before .before .before in
+    let start = c .before .before .before .before .before .before .before .before .before .before .before .before .before .before .before .before .before .before .before in
+    let at = c .before .before .before .before .before .before .before .before .before .before .before .before .before .loop in
+    let after = c .before .before .before .before .before .before .before .before in
     let k = shaped (start .args .w) (start .args .shape) in
     let ts = tasksOf (start .args .file .now) in
     let part = after .task-ends .last .1 .1 .1 .1 .0 in
     let count = after .task-ends .result in
-    let below = inside (c .before .before .before .before .before .before .before .before .before .before .before) .2 in
+    let below = inside (c .before .before .before .before .before .before .before .before .before .before .before .before) .2 in
+    let joined = c .before .before .join-task in
     let new = found after in (
       omega arith,
       half-long (kindLength (start .args .w)) (at .area) (after .task-ends .last .1 .1 .1 .0) (at .inv .1) (new .rowsLong),
-      ends-turn k ts (at .j) (at .ends) (at .counts) (at .unions) part count below (at .inv .2) new (c .used-union .ensures),
-      others-turn k ts (at .j) (at .ends) (at .counts) (at .unions) part count below (at .inv .2) new (at .inv .3),
+      ends-turn k ts (at .j) (at .ends) (at .counts) (at .mixed) part count below (at .inv .2) new (joined .last .0) (joined .result) (joined .ensures),
+      others-turn k ts (at .j) (at .ends) (at .counts) (at .mixed) part count below (at .inv .2) new (at .inv .3),
     )
 
 same-length : tie.Need-same-length Inv-loop μ-loop
@@ -214,14 +190,9 @@ find-ends-spec =
     task-ends-requires
     mul-counts
     slice-write-counts
-    add-used-union
-    mul-used-union
-    sub-used-union
-    part-used-union-start
-    part-used-union-end
-    used-union-requires
-    mul-unions
-    slice-write-unions
+    join-task-requires
+    mul-mixed
+    slice-write-mixed
     add-j
     loop-less
     loop-again

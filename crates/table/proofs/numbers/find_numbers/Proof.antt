@@ -19,10 +19,10 @@ use Rattle.table.proofs.numbers.find_numbers.Statement.{statement}
 use Rattle.table.proofs.numbers.find_numbers.Tie as tie
 
 abbrev Inv-loop : tie.InvT-loop
-Inv-loop file shape w tasks area₀ ends counts unions numbers₀ i₀ area numbers i = (i ≤ tasks) × (length area ≡ areaLength w) × SoFar file (shaped w shape) i numbers
+Inv-loop file shape w tasks area₀ ends counts mixed numbers₀ i₀ area numbers i = (i ≤ tasks) × (length area ≡ areaLength w) × SoFar file (shaped w shape) i numbers
 
 abbrev μ-loop : tie.MeasureT-loop
-μ-loop file shape w tasks area₀ ends counts unions numbers₀ i₀ area numbers i = tasks - i
+μ-loop file shape w tasks area₀ ends counts mixed numbers₀ i₀ area numbers i = tasks - i
 
 no-table : {a : ℕ} → Failed 11 a ≡ Passed → ⊥
 no-table e = let z : _≡_ {A = ℕ} 0 1 = cc in omega arith

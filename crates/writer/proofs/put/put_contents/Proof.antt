@@ -12,14 +12,14 @@ use Rattle.writer.proofs.put.put_contents.Statement.{statement}
 use Rattle.writer.proofs.put.put_contents.Tie as tie
 
 abbrev Inv-loop : tie.InvT-loop
-Inv-loop out₀ lengths offset₀ j₀ j-end out offset j =
+Inv-loop out₀ start lengths offset₀ j₀ j-end out offset j =
     (j ≤ length lengths)
     × (length out ≡ length out₀)
-    × (offset + total (drop j lengths) ≡ 8 + 4 * length lengths + total lengths)
-    × (sets out (8 + 4 * j) (entries offset (drop j lengths)) ≡ sets out₀ 8 (entries (8 + 4 * length lengths) lengths))
+    × (offset + total (drop j lengths) ≡ start + 4 * length lengths + total lengths)
+    × (sets out (start + 4 * j) (entries offset (drop j lengths)) ≡ sets out₀ start (entries (start + 4 * length lengths) lengths))
 
 abbrev μ-loop : tie.MeasureT-loop
-μ-loop out₀ lengths offset₀ j₀ j-end out offset j = length lengths - j
+μ-loop out₀ start lengths offset₀ j₀ j-end out offset j = length lengths - j
 
 mul-offset : tie.Need-mul-offset Inv-loop μ-loop
 mul-offset c = search needs
@@ -28,7 +28,9 @@ add-offset : tie.Need-add-offset Inv-loop μ-loop
 add-offset c = search needs
 
 loop-holds : tie.Need-loop-holds Inv-loop μ-loop
-loop-holds c = (omega arith, refl, refl, refl)
+loop-holds c =
+    let none : c .before .before .args .start + 4 * 0 ≡ c .before .before .args .start = omega arith in
+    (omega arith, refl, refl, rw none)
 
 mul-size : tie.Need-mul-size Inv-loop μ-loop
 mul-size c = search needs
@@ -67,7 +69,7 @@ loop-again c =
       omega arith,
       c .before .before .put-entry .kept .0 ∙ at .inv .1,
       omega (arith, total-step ls (at .j) (omega arith)),
-      entry-turn ls (at .out) (at .offset) (at .j) (omega arith) (c .before .before .put-entry .ensures) ∙ at .inv .3,
+      entry-turn (c .before .before .before .before .before .before .before .before .before .args .start) ls (at .out) (at .offset) (at .j) (omega arith) (c .before .before .put-entry .ensures) ∙ at .inv .3,
     )
 
 same-length : tie.Need-same-length Inv-loop μ-loop
@@ -77,7 +79,7 @@ returns : tie.Need-returns Inv-loop μ-loop
 returns c =
     let at = c .before .loop in
     let ls = c .before .before .before .before .args .lengths .now in
-    entries-end ls (at .out) (at .offset) (8 + 4 * at .j) (at .j) (omega arith) ∙ at .inv .3
+    entries-end ls (at .out) (at .offset) (c .before .before .before .before .args .start + 4 * at .j) (at .j) (omega arith) ∙ at .inv .3
 
 pub put-contents-spec : {M : Type 1} → statement M
 put-contents-spec =

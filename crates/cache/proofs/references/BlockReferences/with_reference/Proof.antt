@@ -21,22 +21,22 @@ cache-block-requires c κs = search needs
 
 first-of-requires : tie.Need-first-of-requires
 first-of-requires c κs =
-    let found = c .before in
-    (inside found, found .before .pre .1)
+    let found = c .before .before in
+    omega (arith, inside found, found .before .pre .1)
 
 with-reference-requires : tie.Need-with-reference-requires
 with-reference-requires c κs =
-    let found = c .before .before .before in
-    (inside found, found .before .pre .1)
+    let found = c .before .before .before .before in
+    omega (arith, inside found, found .before .pre .1)
 
 with-reference-requires-2 : tie.Need-with-reference-requires-2
 with-reference-requires-2 c κs =
-    let found = c .before .before .before .before .before in
-    (inside found, found .before .pre .2)
+    let found = c .before .before .before .before .before .before in
+    omega (arith, inside found, found .before .pre .2)
 
 returns : tie.Need-returns
 returns c =
-    let found = c .before .before .before .before .before .before in
+    let found = c .before .before .before .before .before .before .before in
     let args = found .before .args in
     let k = shaped 32 (args .shape) in
     let m = args .m .0 in

@@ -14,12 +14,16 @@ number-requires c κs = search needs
 mul-cells : tie.Need-mul-cells
 mul-cells c = search needs
 
-element-write-cells : tie.Need-element-write-cells
-element-write-cells c = search needs
+slice-write-cells : tie.Need-slice-write-cells
+slice-write-cells c = search needs
+
+same-length : tie.Need-same-length
+same-length c = search needs
 
 returns : tie.Need-returns
-returns c = ap₂ (set (c .before .before .args .cells .now)) (c .before .index .ensures) (c .number .ensures)
+returns c = ap₂ (set (c .before .before .before .args .cells .now)) (c .before .index .ensures) (c .number .ensures)
 
 pub with-reference-spec : {M : Type 1} → statement M
 with-reference-spec =
-    tie.close (tie.spec index-requires number-requires mul-cells element-write-cells returns)
+    tie.close
+    (tie.spec index-requires number-requires mul-cells slice-write-cells same-length returns)
