@@ -9,7 +9,7 @@ use Rattle.project.specs.declared.answers.Writing.{Writing}
 use Rattle.rows.specs.Rows.{Area}
 use Rattle.sheet.specs.Sheet.{Sheet}
 use Rattle.costliest.specs.Costliest.{costliestCheck, CostliestAnswer}
-use Rattle.crpd_c.specs.Write.{statusOfWriting, numbersOfWriting}
+use Rattle.c_answers.specs.Writing.{statusOfWriting, numbersOfWriting}
 
 -- an answer of the call, in numbers, and the sheet that it leaves; which run is written is left free, as in the call
 pub record RunAnswered (file : File) (i j : ℕ) (first second : Area) (sheet : Sheet) (status : ℕ) (new : Sheet) (numbers : List ℕ) : Type 0 where

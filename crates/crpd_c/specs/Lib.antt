@@ -1,10 +1,10 @@
-pub mod Places
 pub mod Read
+pub mod Body
+pub mod Row
 pub mod States
-pub mod Status
 pub mod Table
-pub mod Write
 pub mod Replay
-pub mod Microseconds
-pub mod CostliestRun
 pub mod Nested
+pub mod CostliestRun
+pub mod Microseconds
+pub mod Write

@@ -1,49 +1,11 @@
 // The calls for C: numbers and slices only. A slice is a pointer and a number of elements.
-pub mod body_place;
-pub mod fill;
-pub mod nested;
-mod put;
-pub mod read;
-pub mod row_place;
-pub mod run;
-pub mod run_counts;
-pub mod time;
-pub mod write;
-
-ghost use mathlib.Core.Path.{_≡_};
-ghost use mathlib.Core.Logic.{_≢_};
-ghost use lib.ListN.{length};
-ghost use Rattle.crpd_c.specs.Table.{tableStatus, tableLeft, tableNamed};
-use project::answers::Filling;
-use project::answers::NO_TASK;
-use table::table;
-
-// Table: 0, or the check that fails first; `named` gets the task that it names, or 255. What `area` holds afterwards is free.
-// A `named` that has not one place gives 1, and then every list is left as it was.
-#[no_mangle]
-pub extern "C" fn crpd_table(
-    file: &[u8],
-    area: &mut [u16],
-    numbers: &mut [u16],
-    named: &mut [u8],
-) -> u8
-    ensures { λ r. ⌜ (r ≡ tableStatus (now (file .entry)) (now (area .entry)) (now (numbers .entry)) (now (named .entry)))
-        × (now (numbers .exit) ≡ tableLeft (now (file .entry)) (now (area .entry)) (now (numbers .entry)) (now (named .entry)))
-        × (now (named .exit) ≡ tableNamed (now (file .entry)) (now (area .entry)) (now (numbers .entry)) (now (named .entry)))
-        × (length (now (area .exit)) ≡ length (now (area .entry)))
-        × (length (now (named .entry)) ≢ 1 → now (area .exit) ≡ now (area .entry)) ⌝ }
-{
-    if named.len() != 1 {
-        return 1;
-    }
-    match table(file, area, numbers) {
-        Filling::Filled => {
-            named[0] = NO_TASK;
-            0
-        }
-        Filling::Refused { check, task } => {
-            named[0] = task;
-            check
-        }
-    }
-}
+pub mod crpd_body;
+pub mod crpd_costliest_run;
+pub mod crpd_microseconds;
+pub mod crpd_nested;
+pub mod crpd_read;
+pub mod crpd_replay;
+pub mod crpd_row;
+pub mod crpd_states;
+pub mod crpd_table;
+pub mod crpd_write;
