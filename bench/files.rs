@@ -1,6 +1,8 @@
 //! Project files for measuring.
 use crate::plain;
 
+pub mod drawn;
+
 /// A block: its successors and its references.
 pub type Block = (Vec<u8>, Vec<u16>);
 
@@ -93,19 +95,19 @@ pub fn tiny() -> Vec<u8> {
     file(2, &[body(&[(vec![0], vec![0, 1])]), body(&[(vec![1], vec![2]), (vec![], vec![5])])])
 }
 
-/// Four tasks of about a dozen blocks with two or three forks.
-pub fn typical() -> Vec<u8> {
+/// Four tasks of about a dozen blocks with two or three forks, most of which have one reference or none.
+pub fn few_references() -> Vec<u8> {
     let bodies: Vec<Vec<u8>> = (0..4).map(|j| body(&forks(8, j, 2 + j % 2, 2))).collect();
     file(8, &bodies)
 }
 
-/// The typical file with a library in three of the eight cache blocks.
-pub fn typical_library() -> Vec<u8> {
+/// The same with a library in three of the eight cache blocks.
+pub fn few_references_library() -> Vec<u8> {
     let bodies: Vec<Vec<u8>> = (0..4).map(|j| body(&linked(8, 3, forks(8, j, 2 + j % 2, 2)))).collect();
     file(8, &bodies)
 }
 
-/// The typical file with every third block masked, and all blocks of the last task.
+/// The file of few references with every third block masked, and all blocks of the last task.
 pub fn masked() -> Vec<u8> {
     let bodies: Vec<Vec<u8>> =
         (0..4).map(|j| masked_body(&forks(8, j, 2 + j % 2, 2), |b| j == 3 || b % 3 == 2)).collect();
@@ -113,12 +115,24 @@ pub fn masked() -> Vec<u8> {
 }
 
 /// Numbers that look random, always the same.
+#[derive(Clone)]
 struct Numbers(u64);
 
 impl Numbers {
     fn below(&mut self, bound: usize) -> usize {
         self.0 = self.0.wrapping_mul(6364136223846793005).wrapping_add(1442695040888963407);
         (self.0 >> 33) as usize % bound
+    }
+
+    /// `count` of these cache blocks, each at most once.
+    fn some_of(&mut self, cells: &[usize], count: usize) -> Vec<usize> {
+        let mut left = cells.to_vec();
+        (0..count)
+            .map(|_| {
+                let k = self.below(left.len());
+                left.swap_remove(k)
+            })
+            .collect()
     }
 
     /// One of two memory blocks of each of `count` different cache blocks, for task j.
@@ -232,9 +246,9 @@ fn largest_masked() -> Vec<u8> {
     file(16, &bodies)
 }
 
-/// Files of the typical kind, one for each of the checks 2 to 9, which they fail.
+/// Files like that of few references, one for each of the checks 2 to 9, which they fail.
 pub fn refused_early() -> Vec<Vec<u8>> {
-    let whole = typical();
+    let whole = few_references();
     let changed = |at: usize, byte: u8| {
         let mut bytes = whole.clone();
         bytes[at] = byte;
@@ -316,8 +330,8 @@ pub fn tiny_sheet() -> Vec<u16> {
     sheet(&[0, 0], &[(0, 2, 1, vec![0, 1])])
 }
 
-/// For the typical file, and for the files that are refused early.
-pub fn typical_sheet() -> Vec<u16> {
+/// For the file of few references, and for the files that are refused early.
+pub fn few_references_sheet() -> Vec<u16> {
     full_sheet(4, &forks(8, 0, 2, 2), |j| path(2 + j % 2, 2, 64))
 }
 
@@ -374,8 +388,8 @@ pub fn tiny_nested() -> Vec<u16> {
     vec![0, 2, 0, 0, 1, 0, 2, 1, 2, 0, 1, 0]
 }
 
-/// For the typical file, and for the files that are refused early: 21 runs down to depth 3.
-pub fn typical_nested() -> Vec<u16> {
+/// For the file of few references, and for the files that are refused early: 21 runs down to depth 3.
+pub fn few_references_nested() -> Vec<u16> {
     let tasks: Vec<_> = (0..4).map(|j| (forks(8, j, 2 + j % 2, 2), path(2 + j % 2, 2, 64))).collect();
     nested(&tasks, &[], 0, &[4, 2, 1])
 }
@@ -452,9 +466,9 @@ pub fn parts(file: &[u8]) -> Parts {
     Parts { n: file[5], bodies: file[8 + 4 * t..].to_vec(), lengths: (0..t).map(length).collect(), room: file.len() }
 }
 
-/// Parts of the typical kind, one for each of the checks 5 to 9 and 14, which they fail.
+/// Parts of the file of few references, one for each of the checks 5 to 9 and 14, which they fail.
 pub fn refused_parts() -> Vec<Parts> {
-    let whole = || parts(&typical());
+    let whole = || parts(&few_references());
     let files = refused_early();
     let mut many = whole();
     many.lengths.extend([0; 5]);

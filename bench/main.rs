@@ -4,6 +4,7 @@ mod plain;
 mod proved;
 
 use crpd::{AREA_LENGTH, COSTLIEST_SHEET_LENGTH, TABLE_LENGTH};
+use files::drawn::{self, Drawn};
 use files::Parts;
 use std::hint::black_box;
 use std::time::Instant;
@@ -15,21 +16,43 @@ const NESTED_CHECKS: [u8; 4] = [12, 13, 16, 20];
 const WRITER_CHECKS: [u8; 6] = [5, 6, 7, 8, 9, 14];
 const RUN_CHECKS: [u8; 2] = [18, 19];
 
-/// The least time of a call, in nanoseconds, over several rounds of about 20 ms each.
-fn measure(mut call: impl FnMut()) -> f64 {
+/// How many calls take about 20 ms.
+fn calls_a_round(call: &mut impl FnMut()) -> usize {
     let start = Instant::now();
     call();
     let once = start.elapsed().as_nanos().max(20) as usize;
-    let calls = (20_000_000 / once).clamp(1, 1_000_000);
-    let mut least = f64::MAX;
+    (20_000_000 / once).clamp(1, 1_000_000)
+}
+
+/// The time of a call in nanoseconds, over a round of calls.
+fn round(calls: usize, call: &mut impl FnMut()) -> f64 {
+    let start = Instant::now();
+    for _ in 0..calls {
+        call();
+    }
+    start.elapsed().as_nanos() as f64 / calls as f64
+}
+
+/// The least times of two calls over nine rounds of each, by turns, so that both meet the same load of the machine.
+fn measure(mut first: impl FnMut(), mut second: impl FnMut()) -> (f64, f64) {
+    let (first_calls, second_calls) = (calls_a_round(&mut first), calls_a_round(&mut second));
+    let mut least = (f64::MAX, f64::MAX);
     for _ in 0..9 {
-        let start = Instant::now();
-        for _ in 0..calls {
-            call();
-        }
-        least = least.min(start.elapsed().as_nanos() as f64 / calls as f64);
+        least.0 = least.0.min(round(first_calls, &mut first));
+        least.1 = least.1.min(round(second_calls, &mut second));
     }
     least
+}
+
+/// One or several inputs of a kind; several where they are drawn, since one says little.
+struct Class<I> {
+    name: String,
+    inputs: Vec<I>,
+}
+
+/// A class of one input.
+fn single<I>(name: &str, input: I) -> Class<I> {
+    Class { name: name.to_string(), inputs: vec![input] }
 }
 
 /// The lines of one call after the other, and the ratios of all.
@@ -43,21 +66,30 @@ impl Lines {
     /// The heading of the lines of a call.
     fn heading(&mut self, call: &'static str) {
         self.call = call;
-        println!("{call}, ns a call (the least of nine rounds)");
-        println!("{:16} {:>12} {:>12} {:>8}", "class", "plain Rust", "proved", "ratio");
+        println!("{call}, ns a call (the least of nine rounds; where a class has several inputs, their mean)");
+        println!("{:18} {:>12} {:>12} {:>8} {:>8}", "class", "plain Rust", "proved", "ratio", "greatest");
     }
 
-    /// Measures both versions on an input and prints their times.
-    fn line<I, A>(&mut self, name: &str, input: &I, mut plain: impl FnMut(&I) -> A, mut proved: impl FnMut(&I) -> A) {
-        let plain_time = measure(|| {
-            black_box(plain(black_box(input)));
-        });
-        let proved_time = measure(|| {
-            black_box(proved(black_box(input)));
-        });
-        let ratio = proved_time / plain_time;
-        println!("{name:16} {plain_time:12.1} {proved_time:12.1} {ratio:8.3}");
-        self.ratios.push((ratio, format!("{}, {name}", self.call)));
+    /// Measures both versions on the inputs of a class and prints the means of their times, the ratio of the means, and the greatest ratio of one
+    /// input.
+    fn line<I, A>(&mut self, class: &Class<I>, mut plain: impl FnMut(&I) -> A, mut proved: impl FnMut(&I) -> A) {
+        let (mut plain_sum, mut proved_sum, mut greatest) = (0.0, 0.0, 0.0f64);
+        for input in &class.inputs {
+            let (plain_time, proved_time) = measure(
+                || {
+                    black_box(plain(black_box(input)));
+                },
+                || {
+                    black_box(proved(black_box(input)));
+                },
+            );
+            plain_sum += plain_time;
+            proved_sum += proved_time;
+            greatest = greatest.max(proved_time / plain_time);
+        }
+        let (count, ratio) = (class.inputs.len() as f64, proved_sum / plain_sum);
+        println!("{:18} {:12.1} {:12.1} {ratio:8.3} {greatest:8.3}", class.name, plain_sum / count, proved_sum / count);
+        self.ratios.push((ratio, format!("{}, {}", self.call, class.name)));
     }
 
     /// The least and the greatest ratio.
@@ -68,42 +100,54 @@ impl Lines {
     }
 }
 
-/// The names of inputs that are refused, by the checks that they fail.
-fn refused_by(checks: &[u8]) -> impl Iterator<Item = String> + '_ {
-    checks.iter().map(|check| format!("refused by {check}"))
+/// A class for each check, of the input that fails it.
+fn refused_by<I>(checks: &[u8], inputs: impl IntoIterator<Item = I>) -> Vec<Class<I>> {
+    checks.iter().zip(inputs).map(|(check, input)| single(&format!("refused by {check}"), input)).collect()
 }
 
-/// The files that Table and States take.
-fn file_classes() -> Vec<(String, Vec<u8>)> {
+/// A class of drawn files, with what is made of each.
+fn several<I>(name: &str, files: Vec<Drawn>, made: impl Fn(&Drawn) -> I) -> Class<I> {
+    Class { name: name.to_string(), inputs: files.iter().map(made).collect() }
+}
+
+/// The files that Table, States and Costliest run take.
+fn file_classes() -> Vec<Class<Vec<u8>>> {
     let mut classes = vec![
-        ("tiny".to_string(), files::tiny()),
-        ("typical".to_string(), files::typical()),
-        ("masked".to_string(), files::masked()),
-        ("typical, library".to_string(), files::typical_library()),
-        ("largest".to_string(), files::largest()),
-        ("largest, library".to_string(), files::largest_library()),
-        ("many ends".to_string(), files::many_ends()),
-        ("varied".to_string(), files::varied()),
-        ("long traces".to_string(), files::long_traces()),
-        ("full blocks".to_string(), files::full_blocks()),
-        ("full, library".to_string(), files::full_blocks_library()),
-        ("refused by 11".to_string(), files::refused_states()),
+        single("tiny", files::tiny()),
+        several("typical", drawn::typical(), Drawn::file),
+        single("few references", files::few_references()),
+        single("few, library", files::few_references_library()),
+        single("masked", files::masked()),
+        several("hard", drawn::hard(), Drawn::file),
+        several("hard, misses", drawn::hard_misses(), Drawn::file),
+        several("hard, pairs", drawn::hard_pairs(), Drawn::file),
+        several("many predecessors", drawn::many_predecessors(), Drawn::file),
+        single("largest", files::largest()),
+        single("largest, library", files::largest_library()),
+        single("many ends", files::many_ends()),
+        single("varied", files::varied()),
+        single("long traces", files::long_traces()),
+        single("full blocks", files::full_blocks()),
+        single("full, library", files::full_blocks_library()),
+        single("refused by 11", files::refused_states()),
+        several("refused late", drawn::refused_late(), Drawn::file),
     ];
-    classes.extend(refused_by(&FILE_CHECKS).zip(files::refused_early()));
+    classes.extend(refused_by(&FILE_CHECKS, files::refused_early()));
     classes
 }
 
 fn table(lines: &mut Lines) {
     lines.heading("Table");
     let (mut area, mut other_area) = (vec![0; AREA_LENGTH], vec![0; AREA_LENGTH]);
-    for (name, file) in &file_classes() {
+    for class in &file_classes() {
         let (mut numbers, mut other) = ([7; TABLE_LENGTH], [7; TABLE_LENGTH]);
-        let expected = plain::table(file, &mut area, &mut numbers);
-        assert_eq!(expected, proved::table(file, &mut other_area, &mut other), "{name}");
-        assert_eq!(numbers, other, "{name}");
+        for file in &class.inputs {
+            let expected = plain::table(file, &mut area, &mut numbers);
+            assert_eq!(expected, proved::table(file, &mut other_area, &mut other), "{}", class.name);
+            assert_eq!(numbers, other, "{}", class.name);
+        }
         lines.line(
-            name,
-            file,
+            class,
             |file| plain::table(file, &mut area, &mut numbers),
             |file| proved::table(file, &mut other_area, &mut other),
         );
@@ -114,18 +158,19 @@ fn table(lines: &mut Lines) {
 fn states(lines: &mut Lines) {
     lines.heading("States");
     let (mut area, mut other) = (vec![0; AREA_LENGTH], vec![0; AREA_LENGTH]);
-    for (name, file) in &file_classes() {
-        area.fill(7);
-        other.fill(7);
-        let task = files::last_task(file);
-        let expected = plain::states(file, task, &mut area);
-        assert_eq!(expected, proved::states(file, task, &mut other), "{name}");
-        assert!(area == other, "{name}");
+    for class in &file_classes() {
+        for file in &class.inputs {
+            area.fill(7);
+            other.fill(7);
+            let task = files::last_task(file);
+            let expected = plain::states(file, task, &mut area);
+            assert_eq!(expected, proved::states(file, task, &mut other), "{}", class.name);
+            assert!(area == other, "{}", class.name);
+        }
         lines.line(
-            name,
-            file,
-            |file| plain::states(file, task, &mut area),
-            |file| proved::states(file, task, &mut other),
+            class,
+            |file| plain::states(file, files::last_task(file), &mut area),
+            |file| proved::states(file, files::last_task(file), &mut other),
         );
     }
 }
@@ -133,81 +178,101 @@ fn states(lines: &mut Lines) {
 /// A file and a sheet.
 type Replayed = (Vec<u8>, Vec<u16>);
 
-fn replay_classes() -> Vec<(String, Replayed)> {
-    let early = files::refused_early().into_iter().map(|file| (file, files::typical_sheet()));
-    let mut classes = vec![
-        ("tiny".to_string(), (files::tiny(), files::tiny_sheet())),
-        ("typical".to_string(), (files::typical(), files::typical_sheet())),
-        ("largest".to_string(), (files::largest(), files::largest_sheet())),
-        ("longest paths".to_string(), (files::largest(), files::longest_sheet())),
-        ("full blocks".to_string(), (files::full_blocks(), files::full_blocks_sheet())),
-    ];
-    classes.extend(refused_by(&FILE_CHECKS).zip(early));
-    classes.extend(refused_by(&SHEET_CHECKS).zip(files::refused_sheets()));
+/// The accepted inputs of Replay.
+fn accepted_replays() -> Vec<Class<Replayed>> {
+    let with_sheet = |drawn: &Drawn| (drawn.file(), drawn.sheet());
+    vec![
+        single("tiny", (files::tiny(), files::tiny_sheet())),
+        several("typical", drawn::typical(), with_sheet),
+        single("few references", (files::few_references(), files::few_references_sheet())),
+        several("hard", drawn::hard(), with_sheet),
+        several("many predecessors", drawn::many_predecessors(), with_sheet),
+        single("largest", (files::largest(), files::largest_sheet())),
+        single("longest paths", (files::largest(), files::longest_sheet())),
+        single("full blocks", (files::full_blocks(), files::full_blocks_sheet())),
+    ]
+}
+
+fn replay_classes() -> Vec<Class<Replayed>> {
+    let early = files::refused_early().into_iter().map(|file| (file, files::few_references_sheet()));
+    let mut classes = accepted_replays();
+    classes.extend(refused_by(&FILE_CHECKS, early));
+    classes.extend(refused_by(&SHEET_CHECKS, files::refused_sheets()));
     classes
 }
 
 fn replay(lines: &mut Lines) {
     lines.heading("Replay");
-    for (name, input) in &replay_classes() {
-        let (file, sheet) = input;
-        assert_eq!(plain::replay(file, sheet), proved::replay(file, sheet), "{name}");
-        lines.line(name, input, |(file, sheet)| plain::replay(file, sheet), |(file, sheet)| proved::replay(file, sheet));
+    for class in &replay_classes() {
+        for (file, sheet) in &class.inputs {
+            assert_eq!(plain::replay(file, sheet), proved::replay(file, sheet), "{}", class.name);
+        }
+        lines.line(class, |(file, sheet)| plain::replay(file, sheet), |(file, sheet)| proved::replay(file, sheet));
     }
 }
 
 /// The accepted inputs of Nested replay.
-fn accepted_nested() -> Vec<(String, Replayed)> {
+fn accepted_nested() -> Vec<Class<Replayed>> {
+    let with_sheet = |drawn: &Drawn| (drawn.file(), drawn.nested_sheet());
+    let with_short_runs = |drawn: &Drawn| (drawn.file(), drawn.short_runs());
     vec![
-        ("tiny".to_string(), (files::tiny(), files::tiny_nested())),
-        ("typical".to_string(), (files::typical(), files::typical_nested())),
-        ("typical, library".to_string(), (files::typical_library(), files::typical_nested())),
-        ("wide".to_string(), (files::largest(), files::wide_nested())),
-        ("deep".to_string(), (files::largest(), files::deep_nested())),
-        ("branching".to_string(), (files::largest(), files::branching_nested())),
-        ("longest paths".to_string(), (files::largest(), files::longest_nested())),
-        ("short paths".to_string(), (files::largest(), files::short_nested())),
-        ("full blocks".to_string(), (files::full_blocks(), files::full_blocks_nested())),
+        single("tiny", (files::tiny(), files::tiny_nested())),
+        several("typical", drawn::typical(), with_sheet),
+        several("short runs", drawn::typical(), with_short_runs),
+        single("few references", (files::few_references(), files::few_references_nested())),
+        single("few, library", (files::few_references_library(), files::few_references_nested())),
+        several("hard", drawn::hard(), with_sheet),
+        several("many predecessors", drawn::many_predecessors(), with_sheet),
+        single("wide", (files::largest(), files::wide_nested())),
+        single("deep", (files::largest(), files::deep_nested())),
+        single("branching", (files::largest(), files::branching_nested())),
+        single("longest paths", (files::largest(), files::longest_nested())),
+        single("short paths", (files::largest(), files::short_nested())),
+        single("full blocks", (files::full_blocks(), files::full_blocks_nested())),
     ]
 }
 
-fn nested_classes() -> Vec<(String, Replayed)> {
-    let early = files::refused_early().into_iter().map(|file| (file, files::typical_nested()));
+fn nested_classes() -> Vec<Class<Replayed>> {
+    let early = files::refused_early().into_iter().map(|file| (file, files::few_references_nested()));
     let mut classes = accepted_nested();
-    classes.extend(refused_by(&FILE_CHECKS).zip(early));
-    classes.extend(refused_by(&NESTED_CHECKS).zip(files::refused_nested()));
+    classes.extend(refused_by(&FILE_CHECKS, early));
+    classes.extend(refused_by(&NESTED_CHECKS, files::refused_nested()));
     classes
 }
 
 fn nested(lines: &mut Lines) {
     lines.heading("Nested replay");
-    for (name, input) in &nested_classes() {
-        let (file, sheet) = input;
-        assert_eq!(plain::nested(file, sheet), proved::nested(file, sheet), "{name}");
-        lines.line(name, input, |(file, sheet)| plain::nested(file, sheet), |(file, sheet)| proved::nested(file, sheet));
+    for class in &nested_classes() {
+        for (file, sheet) in &class.inputs {
+            assert_eq!(plain::nested(file, sheet), proved::nested(file, sheet), "{}", class.name);
+        }
+        lines.line(class, |(file, sheet)| plain::nested(file, sheet), |(file, sheet)| proved::nested(file, sheet));
     }
 }
 
-fn write_classes() -> Vec<(String, Parts)> {
+fn write_classes() -> Vec<Class<Parts>> {
     let mut classes = vec![
-        ("tiny".to_string(), files::parts(&files::tiny())),
-        ("typical".to_string(), files::parts(&files::typical())),
-        ("largest".to_string(), files::parts(&files::largest())),
+        single("tiny", files::parts(&files::tiny())),
+        several("typical", drawn::typical(), |drawn| files::parts(&drawn.file())),
+        single("few references", files::parts(&files::few_references())),
+        several("hard", drawn::hard(), |drawn| files::parts(&drawn.file())),
+        single("largest", files::parts(&files::largest())),
     ];
-    classes.extend(refused_by(&WRITER_CHECKS).zip(files::refused_parts()));
+    classes.extend(refused_by(&WRITER_CHECKS, files::refused_parts()));
     classes
 }
 
 fn write(lines: &mut Lines) {
     lines.heading("Writer");
-    for (name, p) in &write_classes() {
+    for class in &write_classes() {
         let (mut out, mut other) = (vec![7; 8000], vec![7; 8000]);
-        let expected = plain::write(p.n, &p.bodies, &p.lengths, &mut out[..p.room]);
-        assert_eq!(expected, proved::write(p.n, &p.bodies, &p.lengths, &mut other[..p.room]), "{name}");
-        assert!(out == other, "{name}");
+        for p in &class.inputs {
+            let expected = plain::write(p.n, &p.bodies, &p.lengths, &mut out[..p.room]);
+            assert_eq!(expected, proved::write(p.n, &p.bodies, &p.lengths, &mut other[..p.room]), "{}", class.name);
+            assert!(out == other, "{}", class.name);
+        }
         lines.line(
-            name,
-            p,
+            class,
             |p| plain::write(p.n, &p.bodies, &p.lengths, &mut out[..p.room]),
             |p| proved::write(p.n, &p.bodies, &p.lengths, &mut other[..p.room]),
         );
@@ -217,10 +282,13 @@ fn write(lines: &mut Lines) {
 /// A number, a penalty and a clock each: typical ones, the longest time, and ones that are refused.
 fn microseconds(lines: &mut Lines) {
     lines.heading("Microseconds");
-    for (name, input) in [("typical", (6, 30, 72_000)), ("largest", (16, 1000, 1)), ("refused by 17", (17, 30, 72_000))] {
-        let (number, penalty, clock) = input;
-        assert_eq!(plain::microseconds(number, penalty, clock), proved::microseconds(number, penalty, clock), "{name}");
-        lines.line(name, &input, |&(n, p, c)| plain::microseconds(n, p, c), |&(n, p, c)| proved::microseconds(n, p, c));
+    let classes =
+        [single("typical", (6, 30, 72_000)), single("largest", (16, 1000, 1)), single("refused by 17", (17, 30, 72_000))];
+    for class in &classes {
+        let (number, penalty, clock) = class.inputs[0];
+        let expected = plain::microseconds(number, penalty, clock);
+        assert_eq!(expected, proved::microseconds(number, penalty, clock), "{}", class.name);
+        lines.line(class, |&(n, p, c)| plain::microseconds(n, p, c), |&(n, p, c)| proved::microseconds(n, p, c));
     }
 }
 
@@ -239,13 +307,14 @@ fn asked(file: Vec<u8>) -> Asked {
 
 /// One task given twice, and a sheet that is too short.
 fn refused_runs() -> [Asked; 2] {
-    let typical = || asked(files::typical());
-    [Asked { j: 0, ..typical() }, Asked { room: COSTLIEST_SHEET_LENGTH - 1, ..typical() }]
+    let few = || asked(files::few_references());
+    [Asked { j: 0, ..few() }, Asked { room: COSTLIEST_SHEET_LENGTH - 1, ..few() }]
 }
 
-fn run_classes() -> Vec<(String, Asked)> {
-    let mut classes: Vec<_> = file_classes().into_iter().map(|(name, file)| (name, asked(file))).collect();
-    classes.extend(refused_by(&RUN_CHECKS).zip(refused_runs()));
+fn run_classes() -> Vec<Class<Asked>> {
+    let mut classes: Vec<Class<Asked>> =
+        file_classes().into_iter().map(|c| Class { name: c.name, inputs: c.inputs.into_iter().map(asked).collect() }).collect();
+    classes.extend(refused_by(&RUN_CHECKS, refused_runs()));
     classes
 }
 
@@ -260,14 +329,14 @@ fn costliest_run(lines: &mut Lines) {
     lines.heading("Costliest run");
     let (mut first, mut second, mut sheet) = (vec![0; AREA_LENGTH], vec![0; AREA_LENGTH], [7; COSTLIEST_SHEET_LENGTH]);
     let (mut other_first, mut other_second, mut other) = (first.clone(), second.clone(), sheet);
-    for (name, asked) in &run_classes() {
-        let Asked { file, i, j, room } = asked;
-        let expected = plain::costliest_run(file, *i, *j, &mut first, &mut second, &mut sheet[..*room]);
-        let found = proved::costliest_run(file, *i, *j, &mut other_first, &mut other_second, &mut other[..*room]);
-        assert_eq!(lost(file, &sheet, expected), lost(file, &other, found), "{name}");
+    for class in &run_classes() {
+        for Asked { file, i, j, room } in &class.inputs {
+            let expected = plain::costliest_run(file, *i, *j, &mut first, &mut second, &mut sheet[..*room]);
+            let found = proved::costliest_run(file, *i, *j, &mut other_first, &mut other_second, &mut other[..*room]);
+            assert_eq!(lost(file, &sheet, expected), lost(file, &other, found), "{}", class.name);
+        }
         lines.line(
-            name,
-            asked,
+            class,
             |a| plain::costliest_run(&a.file, a.i, a.j, &mut first, &mut second, &mut sheet[..a.room]),
             |a| proved::costliest_run(&a.file, a.i, a.j, &mut other_first, &mut other_second, &mut other[..a.room]),
         );
@@ -285,8 +354,9 @@ fn plain_lost(a: &Asked) -> Result<u32, plain::Refusal> {
 fn refused_as_meant() {
     let failed: Vec<u8> = files::refused_early().iter().map(|f| plain::replay(f, &[]).unwrap_err().0).collect();
     assert_eq!(failed, FILE_CHECKS);
-    let file = files::refused_states();
-    assert_eq!(plain::states(&file, files::last_task(&file), &mut [0; AREA_LENGTH]), Err((11, 7)));
+    for file in drawn::refused_late().iter().map(Drawn::file).chain([files::refused_states()]) {
+        assert_eq!(plain::table(&file, &mut [0; AREA_LENGTH], &mut [0; TABLE_LENGTH]), Err((11, 7)));
+    }
     let failed: Vec<u8> = files::refused_sheets().iter().map(|(f, s)| plain::replay(f, s).unwrap_err().0).collect();
     assert_eq!(failed, SHEET_CHECKS);
     let failed: Vec<u8> = files::refused_nested().iter().map(|(f, s)| plain::nested(f, s).unwrap_err().0).collect();
@@ -301,47 +371,36 @@ fn refused_as_meant() {
     assert_eq!(failed, RUN_CHECKS);
 }
 
+/// The table of a file that is accepted.
+fn table_of(file: &[u8]) -> [u16; TABLE_LENGTH] {
+    let mut numbers = [0; TABLE_LENGTH];
+    plain::table(file, &mut [0; AREA_LENGTH], &mut numbers).unwrap();
+    numbers
+}
+
 /// The other inputs are accepted, the writer gives back the files that its parts are made from, masks and a library change the
 /// table, and the costliest runs reach the numbers of the table.
 fn accepted_as_meant() {
-    let files = [files::tiny(), files::typical(), files::largest(), files::largest(), files::full_blocks()];
-    let sheets =
-        [files::tiny_sheet(), files::typical_sheet(), files::largest_sheet(), files::longest_sheet(), files::full_blocks_sheet()];
-    for (file, sheet) in files.iter().zip(&sheets) {
-        let (without, with, lost) = plain::replay(file, sheet).unwrap();
+    for (file, sheet) in accepted_replays().into_iter().flat_map(|class| class.inputs) {
+        let (without, with, lost) = plain::replay(&file, &sheet).unwrap();
         assert!(without < with && 0 < lost);
-        plain::states(file, files::last_task(file), &mut [0; AREA_LENGTH]).unwrap();
-        let (parts, mut out) = (files::parts(file), vec![0; file.len()]);
+        let (parts, mut out) = (files::parts(&file), vec![0; file.len()]);
         assert_eq!(plain::write(parts.n, &parts.bodies, &parts.lengths, &mut out), Ok(file.len()));
-        assert_eq!(&out, file);
+        assert_eq!(out, file);
     }
-    for (_, (file, sheet)) in accepted_nested() {
+    for (file, sheet) in accepted_nested().into_iter().flat_map(|class| class.inputs) {
         // with the list of the outer run left out there are fewer misses
         let end = 3 + sheet[1] as usize;
         let alone = [&sheet[..end - 1], &[0]].concat();
         assert!(plain::nested(&file, &alone).unwrap() < plain::nested(&file, &sheet).unwrap());
     }
-    let table = |file: &[u8]| {
-        let mut numbers = [0; TABLE_LENGTH];
-        plain::table(file, &mut [0; AREA_LENGTH], &mut numbers).unwrap();
-        numbers
-    };
-    assert_ne!(table(&files::masked()), table(&files::typical()));
-    assert_ne!(table(&files::typical_library()), table(&files::typical()));
-    assert_ne!(table(&files::largest_library()), table(&files::largest()));
-    assert_ne!(table(&files::full_blocks_library()), table(&files::full_blocks()));
-    let shared = [files::typical_library(), files::largest_library(), files::many_ends(), files::full_blocks_library()];
-    let own = [
-        files::tiny(),
-        files::typical(),
-        files::masked(),
-        files::largest(),
-        files::varied(),
-        files::long_traces(),
-        files::full_blocks(),
-    ];
-    for file in shared.into_iter().chain(own) {
-        assert_eq!(plain_lost(&asked(file.clone())), Ok(table(&file)[files::last_task(&file)] as u32));
+    assert_ne!(table_of(&files::masked()), table_of(&files::few_references()));
+    assert_ne!(table_of(&files::few_references_library()), table_of(&files::few_references()));
+    assert_ne!(table_of(&files::largest_library()), table_of(&files::largest()));
+    assert_ne!(table_of(&files::full_blocks_library()), table_of(&files::full_blocks()));
+    let accepted = file_classes().into_iter().filter(|class| !class.name.starts_with("refused"));
+    for file in accepted.flat_map(|class| class.inputs) {
+        assert_eq!(plain_lost(&asked(file.clone())), Ok(table_of(&file)[files::last_task(&file)] as u32));
     }
 }
 

@@ -1,6 +1,8 @@
 //! The costliest run the plain way.
 use super::table::{replaced, useful};
-use super::{after, before, left_at_points, predecessors, read, refer, Refusal, Row, Task, MOST_STATES, NOTHING};
+use super::{
+    after, before, left_at_points, once, points, predecessors, read, referred, Refusal, Row, Rows, Task, EMPTY, MOST_STATES,
+};
 use std::collections::BTreeMap;
 
 /// The rows of each block, each with the block and the row that it was first met from; the first row has none.
@@ -15,7 +17,7 @@ struct Gathered {
 /// The rows of each block, gathered from one row; none where a block has more than 32.
 fn gather(count: usize, first: (usize, Row), next: impl Fn(usize, &Row) -> Vec<(usize, Row)>) -> Option<Parents> {
     let mut rows: Parents = vec![BTreeMap::new(); count];
-    rows[first.0].insert(first.1.clone(), None);
+    rows[first.0].insert(first.1, None);
     let mut waiting = vec![first];
     while let Some((b, row)) = waiting.pop() {
         for (c, new) in next(b, &row) {
@@ -23,7 +25,7 @@ fn gather(count: usize, first: (usize, Row), next: impl Fn(usize, &Row) -> Vec<(
                 if rows[c].len() == MOST_STATES {
                     return None;
                 }
-                rows[c].insert(new.clone(), Some((b, row.clone())));
+                rows[c].insert(new, Some((b, row)));
                 waiting.push((c, new));
             }
         }
@@ -34,14 +36,13 @@ fn gather(count: usize, first: (usize, Row), next: impl Fn(usize, &Row) -> Vec<(
 /// The rows of the task numbered k (check 11).
 fn gathered(n: usize, tasks: &[Task], k: usize) -> Result<Gathered, Refusal> {
     let task = &tasks[k];
-    let empty = vec![NOTHING; n];
     let back = predecessors(task);
-    let reaching = gather(task.len(), (0, after(&empty, &task[0])), |b, row| {
-        task[b].successors.iter().map(|&c| (c, after(row, &task[c]))).collect()
+    let reaching = gather(task.len(), (0, after(n, &EMPTY, &task[0])), |b, row| {
+        task[b].successors.iter().map(|&c| (c, after(n, row, &task[c]))).collect()
     });
-    let live = gather(task.len(), (task.len() - 1, empty), |b, row| {
-        let new = before(row, &task[b]);
-        back[b].iter().map(|&c| (c, new.clone())).collect()
+    let live = gather(task.len(), (task.len() - 1, EMPTY), |b, row| {
+        let new = before(n, row, &task[b]);
+        back[b].iter().map(|&c| (c, new)).collect()
     });
     match (reaching, live) {
         (Some(reaching), Some(live)) => Ok(Gathered { reaching, live }),
@@ -67,48 +68,47 @@ fn path_to(reaching: &Parents, block: usize, row: &Row) -> Vec<u16> {
     blocks
 }
 
-/// Where a preemption costs most: a block of the task that isn't masked, how many of its references are done, a row before it, with the
-/// predecessor that it comes from, a live row of it and a row that the other task ends with.
+/// A row before a block, with the predecessor that it comes from; none for the empty row before the entry.
+type Before<'a> = Option<(usize, &'a Row)>;
+
+/// Where a preemption costs most: a block of the task that isn't masked, how many of its references are done, a row before it, a live row
+/// of it and a row that the other task ends with.
 struct Point<'a> {
     block: usize,
     done: usize,
-    before: Option<(usize, &'a Row)>,
+    before: Before<'a>,
     live: &'a Row,
     end: &'a Row,
 }
 
-/// The point that costs most; none if all blocks are masked.
+/// The rows before a block, each with one of those that it comes from.
+fn entering<'a>(reaching: &'a Parents, back: &[Vec<usize>], b: usize) -> Rows<Before<'a>> {
+    let first = (b == 0).then_some((EMPTY, None));
+    once(back[b].iter().flat_map(|&c| reaching[c].keys().map(move |row| (*row, Some((c, row))))).chain(first))
+}
+
+/// The point that costs most; none if all blocks are masked. Equal rows at a point are met once, and so are equal useful and equal
+/// replaced sets.
 fn costliest<'a>(n: usize, task: &Task, own: &'a Gathered, other: &'a Parents) -> Option<Point<'a>> {
     let back = predecessors(task);
-    let empty = vec![NOTHING; n];
     let mut most = 0;
     let mut found = None;
-    for block in 0..task.len() {
-        if task[block].masked {
-            continue;
-        }
-        let references = &task[block].references;
-        let mut entered: Vec<Option<(usize, &Row)>> =
-            back[block].iter().flat_map(|&c| own.reaching[c].keys().map(move |row| Some((c, row)))).collect();
-        if block == 0 {
-            entered.push(None);
-        }
-        let lived: Vec<&Row> = own.live[block].keys().collect();
-        let left = left_at_points(references, &lived);
-        for before in entered {
-            let mut r = before.map_or(&empty, |(_, row)| row).clone();
-            for done in references.len().min(1)..=references.len() {
-                if 0 < done {
-                    refer(&mut r, references[done - 1]);
-                }
-                let sets: Vec<(u32, &Row)> = other[other.len() - 1].keys().map(|end| (replaced(end, &r), end)).collect();
-                for (l, &live) in left[done].iter().zip(&lived) {
-                    let u = useful(&r, l);
-                    for &(v, end) in &sets {
+    for (b, block) in task.iter().enumerate().filter(|(_, block)| !block.masked) {
+        let left = left_at_points(n, &block.references, own.live[b].keys().map(|row| (*row, row)).collect());
+        let mut rows = entering(&own.reaching, &back, b);
+        for done in points(block) {
+            if 0 < done {
+                rows = referred(n, &rows, block.references[done - 1]);
+            }
+            for (row, before) in &rows {
+                let useful_sets = once(left[done].iter().map(|(l, live)| (useful(row, l), *live)));
+                let replaced_sets = once(other[other.len() - 1].keys().map(|end| (replaced(end, row), end)));
+                for &(u, live) in &useful_sets {
+                    for &(v, end) in &replaced_sets {
                         let number = (u & v).count_ones();
                         if found.is_none() || most < number {
                             most = number;
-                            found = Some(Point { block, done, before, live, end });
+                            found = Some(Point { block: b, done, before: *before, live, end });
                         }
                     }
                 }

@@ -1,5 +1,5 @@
-//! The calls the plain way: vectors, ordered sets and work lists, as one would write them in an afternoon.
-//! Here stands what they share: the reader and the states of a task.
+//! The calls the plain way: rows in arrays, ordered sets and work lists, as one would write them in an afternoon.
+//! Here stands what they share: the reader, the states of a task, and the rows at the points of a block.
 mod costliest_run;
 mod microseconds;
 mod nested;
@@ -23,7 +23,10 @@ const MOST_STATES: usize = 32;
 
 /// The check that fails first and the task it names.
 pub type Refusal = (u8, u8);
-pub type Row = Vec<u16>;
+/// A memory block or nothing for each cache block; places from n on hold nothing.
+pub type Row = [u16; 16];
+
+const EMPTY: Row = [NOTHING; 16];
 
 pub struct Block {
     masked: bool,
@@ -155,11 +158,11 @@ fn tasks(bodies: &[&[u8]]) -> Result<Vec<Task>, Refusal> {
 /// The rows of each block, gathered from one row; none where a block has more than 32.
 fn gather(count: usize, first: (usize, Row), next: impl Fn(usize, &Row) -> Vec<(usize, Row)>) -> Option<Vec<BTreeSet<Row>>> {
     let mut rows = vec![BTreeSet::new(); count];
-    rows[first.0].insert(first.1.clone());
+    rows[first.0].insert(first.1);
     let mut waiting = vec![first];
     while let Some((b, row)) = waiting.pop() {
         for (c, new) in next(b, &row) {
-            if rows[c].insert(new.clone()) {
+            if rows[c].insert(new) {
                 if MOST_STATES < rows[c].len() {
                     return None;
                 }
@@ -170,58 +173,72 @@ fn gather(count: usize, first: (usize, Row), next: impl Fn(usize, &Row) -> Vec<(
     Some(rows)
 }
 
-fn refer(row: &mut Row, m: u16) {
-    let place = m as usize % row.len();
-    row[place] = m;
+fn refer(n: usize, row: &mut Row, m: u16) {
+    row[m as usize % n] = m;
 }
 
-fn after(row: &Row, block: &Block) -> Row {
-    let mut row = row.clone();
+fn after(n: usize, row: &Row, block: &Block) -> Row {
+    let mut row = *row;
     for &m in &block.references {
-        refer(&mut row, m);
+        refer(n, &mut row, m);
     }
     row
 }
 
-fn before(row: &Row, block: &Block) -> Row {
-    let mut row = row.clone();
+fn before(n: usize, row: &Row, block: &Block) -> Row {
+    let mut row = *row;
     for &m in block.references.iter().rev() {
-        refer(&mut row, m);
+        refer(n, &mut row, m);
     }
     row
-}
-
-/// The rows before each block: those that reach its predecessors, and the empty one for the entry.
-fn entering(n: usize, task: &Task, reached: &[BTreeSet<Row>]) -> Vec<BTreeSet<Row>> {
-    let mut entered: Vec<BTreeSet<Row>> =
-        predecessors(task).iter().map(|back| back.iter().flat_map(|&c| reached[c].clone()).collect()).collect();
-    entered[0].insert(vec![NOTHING; n]);
-    entered
-}
-
-/// For each number of references done the live rows, overlaid by the first references of what is left.
-fn left_at_points(references: &[u16], lived: &[&Row]) -> Vec<Vec<Row>> {
-    let left = |done: usize, row: &Row| {
-        let mut row = row.clone();
-        for &m in references[done..].iter().rev() {
-            refer(&mut row, m);
-        }
-        row
-    };
-    (0..=references.len()).map(|done| lived.iter().map(|row| left(done, row)).collect()).collect()
 }
 
 pub fn reaching(n: usize, task: &Task) -> Option<Vec<BTreeSet<Row>>> {
-    let empty = vec![NOTHING; n];
-    gather(task.len(), (0, after(&empty, &task[0])), |b, row| {
-        task[b].successors.iter().map(|&c| (c, after(row, &task[c]))).collect()
+    gather(task.len(), (0, after(n, &EMPTY, &task[0])), |b, row| {
+        task[b].successors.iter().map(|&c| (c, after(n, row, &task[c]))).collect()
     })
 }
 
 pub fn live(n: usize, task: &Task) -> Option<Vec<BTreeSet<Row>>> {
     let back = predecessors(task);
-    gather(task.len(), (task.len() - 1, vec![NOTHING; n]), |b, row| {
-        let new = before(row, &task[b]);
-        back[b].iter().map(|&c| (c, new.clone())).collect()
+    gather(task.len(), (task.len() - 1, EMPTY), |b, row| {
+        let new = before(n, row, &task[b]);
+        back[b].iter().map(|&c| (c, new)).collect()
     })
+}
+
+/// The items in rising order of their keys, one for each key.
+fn once<K: Ord + Copy, T>(items: impl Iterator<Item = (K, T)>) -> Vec<(K, T)> {
+    let mut items: Vec<(K, T)> = items.collect();
+    items.sort_unstable_by_key(|item| item.0);
+    items.dedup_by_key(|item| item.0);
+    items
+}
+
+/// Rows, each once, with something known of each.
+type Rows<T> = Vec<(Row, T)>;
+
+/// The rows after a reference; equal ones once.
+fn referred<T: Copy>(n: usize, rows: &Rows<T>, m: u16) -> Rows<T> {
+    let with_reference = |&(mut row, known): &(Row, T)| {
+        refer(n, &mut row, m);
+        (row, known)
+    };
+    once(rows.iter().map(with_reference))
+}
+
+/// For each number of references done the live rows, overlaid by the first references of what is left; equal ones once.
+fn left_at_points<T: Copy>(n: usize, references: &[u16], lived: Rows<T>) -> Vec<Rows<T>> {
+    let mut left = vec![lived];
+    for &m in references.iter().rev() {
+        left.push(referred(n, &left[left.len() - 1], m));
+    }
+    left.reverse();
+    left
+}
+
+/// The numbers of references done at the points of a block: 1 to all, or 0 where it has none.
+fn points(block: &Block) -> std::ops::RangeInclusive<usize> {
+    let count = block.references.len();
+    count.min(1)..=count
 }

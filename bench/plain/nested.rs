@@ -1,6 +1,6 @@
 //! Nested replay the plain way: one function reads a run and its list, one checks them, one replays them.
 use super::replay::{complete, hits, take, take_path};
-use super::{read, Refusal, Task, NOTHING};
+use super::{points, read, Refusal, Row, Task, EMPTY};
 
 /// The most runs of a list, and the most runs that lie one within the other, without the outer one.
 const LONGEST_LIST: usize = 16;
@@ -34,9 +34,9 @@ pub fn nested(file: &[u8], sheet: &[u16]) -> Result<u64, Refusal> {
     if !unmasked(&tasks, &run) {
         return Err((16, 255));
     }
-    let mut row = vec![NOTHING; n];
+    let mut row = EMPTY;
     let mut misses = 0;
-    replay(&tasks, &run, &mut row, &mut misses);
+    replay(n, &tasks, &run, &mut row, &mut misses);
     Ok(misses)
 }
 
@@ -79,8 +79,7 @@ fn right(tasks: &[Task], run: &Run) -> bool {
     let task = &tasks[run.task];
     complete(task, run.path)
         && run.list.iter().all(|p| {
-            let count = task[run.path[p.position] as usize].references.len();
-            count.min(1) <= p.done && p.done <= count && right(tasks, &p.run)
+            points(&task[run.path[p.position] as usize]).contains(&p.done) && right(tasks, &p.run)
         })
 }
 
@@ -90,16 +89,16 @@ fn unmasked(tasks: &[Task], run: &Run) -> bool {
 }
 
 /// Makes all references of a run and of those within it, and adds up the misses.
-fn replay(tasks: &[Task], run: &Run, row: &mut [u16], misses: &mut u64) {
+fn replay(n: usize, tasks: &[Task], run: &Run, row: &mut Row, misses: &mut u64) {
     let mut coming = run.list.iter().peekable();
     for (position, &b) in run.path.iter().enumerate() {
-        let references = &tasks[run.task][b as usize].references;
-        for done in references.len().min(1)..=references.len() {
+        let block = &tasks[run.task][b as usize];
+        for done in points(block) {
             if 0 < done {
-                *misses += u64::from(!hits(row, references[done - 1]));
+                *misses += u64::from(!hits(n, row, block.references[done - 1]));
             }
             while let Some(p) = coming.next_if(|p| p.position == position && p.done == done) {
-                replay(tasks, &p.run, row, misses);
+                replay(n, tasks, &p.run, row, misses);
             }
         }
     }

@@ -1,5 +1,5 @@
 //! Replay the plain way.
-use super::{read, Refusal, Task, NOTHING};
+use super::{points, read, Refusal, Row, Task, EMPTY};
 
 /// The most blocks of a path.
 const LONGEST_PATH: usize = 1536;
@@ -28,11 +28,7 @@ pub fn replay(file: &[u8], sheet: &[u16]) -> Result<(u32, u32, u32), Refusal> {
         return Err((13, 255));
     }
     let block = |p: &Preemption| &tasks[run.task][run.path[p.position] as usize];
-    let right = |p: &Preemption| {
-        let count = block(p).references.len();
-        if count == 0 { p.done == 0 } else { 1 <= p.done && p.done <= count }
-    };
-    if !run.preemptions.iter().all(right) {
+    if !run.preemptions.iter().all(|p| points(block(p)).contains(&p.done)) {
         return Err((13, 255));
     }
     if run.preemptions.iter().any(|p| block(p).masked) {
@@ -92,8 +88,8 @@ pub(super) fn complete(task: &Task, path: &[u16]) -> bool {
 }
 
 /// Makes a reference; answers whether it hits.
-pub(super) fn hits(row: &mut [u16], m: u16) -> bool {
-    let place = &mut row[m as usize % row.len()];
+pub(super) fn hits(n: usize, row: &mut Row, m: u16) -> bool {
+    let place = &mut row[m as usize % n];
     let hit = *place == m;
     *place = m;
     hit
@@ -101,16 +97,16 @@ pub(super) fn hits(row: &mut [u16], m: u16) -> bool {
 
 /// The misses of the run's own references without and with the preemptions, and those that hit without and miss with them.
 fn misses(n: usize, tasks: &[Task], run: &Run) -> (u32, u32, u32) {
-    let mut alone = vec![NOTHING; n];
-    let mut disturbed = vec![NOTHING; n];
+    let mut alone = EMPTY;
+    let mut disturbed = EMPTY;
     let mut counts = (0, 0, 0);
     let mut coming = run.preemptions.iter().peekable();
     for (position, &b) in run.path.iter().enumerate() {
-        let references = &tasks[run.task][b as usize].references;
-        for done in references.len().min(1)..=references.len() {
+        let block = &tasks[run.task][b as usize];
+        for done in points(block) {
             if 0 < done {
-                let m = references[done - 1];
-                let (before, after) = (hits(&mut alone, m), hits(&mut disturbed, m));
+                let m = block.references[done - 1];
+                let (before, after) = (hits(n, &mut alone, m), hits(n, &mut disturbed, m));
                 counts.0 += u32::from(!before);
                 counts.1 += u32::from(!after);
                 counts.2 += u32::from(before && !after);
@@ -118,7 +114,7 @@ fn misses(n: usize, tasks: &[Task], run: &Run) -> (u32, u32, u32) {
             while let Some(p) = coming.next_if(|p| p.position == position && p.done == done) {
                 for &c in p.path {
                     for &m in &tasks[p.task][c as usize].references {
-                        hits(&mut disturbed, m);
+                        hits(n, &mut disturbed, m);
                     }
                 }
             }

@@ -42,7 +42,7 @@ fn place(sets: &[BTreeSet<Row>], rows: &mut [u16], counts: &mut [u16]) {
         counts[b] = set.len() as u16;
         for (k, row) in set.iter().enumerate() {
             let at = (32 * b + k) * 16;
-            rows[at..at + row.len()].copy_from_slice(row);
+            rows[at..at + 16].copy_from_slice(row);
         }
     }
 }

@@ -2,3 +2,5 @@ pub mod ReplacedSets
 pub mod UsefulSets
 pub mod Meeting
 pub mod OneRow
+pub mod LaneSets
+pub mod LaneLaws

@@ -13,22 +13,23 @@ use lib.Seq.{drop-cons, getD-set-same, getD-set-other}
 use lib.Bits.{bitAnd, and-step, and-zero-l}
 use lib.Count.{ones, ones-step, ones-le}
 use borrow.Author.Tests.{eqb-true, eqb-false}
+use Rattle.model.specs.Lists.{best}
 use Rattle.rows.specs.Rows.{rowsOf}
 use Rattle.gather.specs.Memory.{heldRows}
 use Rattle.pairs.specs.Pairs.{mostCommon, setsMost, endsOf, Met}
 
--- ---- the most that a set has in common with one of some sets
+-- ---- the most that one of some sets counts
 
-module _ (u : ℕ) (vs : List ℕ) where
-  -- a turn: x is what it has in common with the set numbered k, and m becomes the larger
-  pub most-turn : (k m : ℕ) {x new : ℕ} → k < length vs → x ≡ ones (bitAnd u (getD vs k 0)) → new ≡ max m x
-      → max m (mostCommon u (drop k vs)) ≡ mostCommon u vs → max new (mostCommon u (drop (k + 1) vs)) ≡ mostCommon u vs
+module _ (f : ℕ → ℕ) (vs : List ℕ) where
+  -- a turn: x is what the set numbered k counts, and m becomes the larger
+  pub most-turn : (k m : ℕ) {x new : ℕ} → k < length vs → x ≡ f (getD vs k 0) → new ≡ max m x → max m (best f (drop k vs)) ≡ best f vs
+      → max new (best f (drop (k + 1) vs)) ≡ best f vs
   most-turn k m {x} {new} h e q i =
-      let n : mostCommon u (drop k vs) ≡ max x (mostCommon u (drop (k + 1) vs)) = rw (drop-cons vs k 0 h, add-one k, e) in
+      let n : best f (drop k vs) ≡ max x (best f (drop (k + 1) vs)) = rw (drop-cons vs k 0 h, add-one k, e) in
       omega arith
 
-  pub most-end : (k m : ℕ) → length vs ≤ k → max m (mostCommon u (drop k vs)) ≡ mostCommon u vs → m ≡ mostCommon u vs
-  most-end k m h i = let n : mostCommon u (drop k vs) ≡ 0 = ap (mostCommon u) (drop-of-length-le vs {i = k} h) in omega arith
+  pub most-end : (k m : ℕ) → length vs ≤ k → max m (best f (drop k vs)) ≡ best f vs → m ≡ best f vs
+  most-end k m h i = let n : best f (drop k vs) ≡ 0 = ap (best f) (drop-of-length-le vs {i = k} h) in omega arith
 
 -- the most over the useful sets, of which those from k on are left: a turn raises m by the set numbered k
 module _ (us vs : List ℕ) (number : ℕ) where

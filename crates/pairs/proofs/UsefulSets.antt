@@ -2,22 +2,25 @@
 -- of, and a number that the row cannot raise stays.
 use mathlib.Core.Path.{_≡_, refl, sym, ap, _∙_}
 use mathlib.Core.Bool.{Bool, true, false, true≢false}
-use mathlib.Core.List.{List, [], _∷_, map, map-map}
-use Prim.Native.Nat.{ℕ, zero, suc, _+_, _-_, _≤_, _<_, max}
+use mathlib.Core.List.{List, [], _∷_, map}
+use Prim.Native.Nat.{ℕ, zero, suc, _+_, _-_, _^_, _≤_, _<_, max}
 use native.Mathlib.Numerals.{add-one}
 use native.Mathlib.Omega.{arith}
 use lib.Dec.{eqb}
 use lib.ListN.{length, getD, take, drop}
 use lib.Bits.{bitAnd, and-comm}
 use lib.Count.{ones}
+use lib.Pow.{pow-mono}
 use borrow.Author.Tests.{eqb-true, eqb-false, ltb-false}
-use Rattle.cache.specs.Sets.{bits}
+use Rattle.cache.specs.Sets.{useful, bits}
+use Rattle.cache.proofs.Bits.{bits-lt}
 use Rattle.model.specs.Lists.{best}
 use Rattle.model.proofs.Membership.{or-left, or-right}
 use Rattle.rows.specs.Overlay.{overlay}
 use Rattle.rows.proofs.Parts.{lent-first}
-use Rattle.pairs.specs.Pairs.{usefulSet, keptSet, usefulSets, usefulSizes, UsefulSets, replacedSets, someReplaces, mostCommon, setsMost, NoMoreThanAll, pointMost, usefulMost, someBelow, mayRaiseSome, endsOf, Met}
+use Rattle.pairs.specs.Pairs.{usefulSet, keptSet, usefulSets, UsefulSets, replacedSets, someReplaces, mostCommon, setsMost, largestOf, NoMoreThanAll, pointMost, usefulMost, someBelow, mayRaiseSome, endsOf, Met}
 use Rattle.pairs.proofs.ReplacedSets.{all-bounds, stays-replaced}
+use Rattle.pairs.proofs.Meeting.{most-ones}
 
 -- ---- the sets are made of some live rows
 
@@ -31,20 +34,12 @@ each-made P f h [] k b = absurd (omega arith)
 each-made P f h (l ∷ ls) zero b = h l
 each-made P f h (l ∷ ls) (suc k) b = each-made P f h ls k (omega arith)
 
-pub size-at : (us : List ℕ) (k : ℕ) → k < length us → getD (map ones us) k 0 ≡ ones (getD us k 0)
-size-at [] k h = absurd (omega arith)
-size-at (u ∷ us) zero h = refl
-size-at (u ∷ us) (suc k) h = size-at us k (omega arith)
-
 point-useful : (r rest : List ℕ) (ls fs : List (List ℕ)) → pointMost r rest ls fs ≡ usefulMost r (usefulSets r rest ls) fs
 point-useful r rest ls fs = best-map (λ (u : ℕ). mostCommon u (replacedSets r fs)) (λ (l : List ℕ). usefulSet r (overlay l rest)) ls
 
-module _ (r : List ℕ) (held : ℕ) (us sizes : List ℕ) (is : UsefulSets r held us sizes) where
+module _ (r : List ℕ) (held : ℕ) (us : List ℕ) (is : UsefulSets r held us) where
   pub useful-most : (fs : List (List ℕ)) → pointMost r (is .rest) (is .lives) fs ≡ usefulMost r us fs
   useful-most fs = point-useful r (is .rest) (is .lives) fs ∙ ap (λ (x : List ℕ). usefulMost r x fs) (sym (is .sets))
-
-  pub sizes-ones : sizes ≡ map ones us
-  sizes-ones = is .sized ∙ sym (map-map ones (λ (l : List ℕ). usefulSet r (overlay l (is .rest))) (is .lives)) ∙ ap (map ones) (sym (is .sets))
 
   -- the first of the replaced sets were lent as a part, and all is their union
   pub part-bounded : (fs : List (List ℕ)) {part : List ℕ} {all : ℕ} → part ≡ replacedSets r fs → all ≡ bits (length r) (someReplaces fs r) → NoMoreThanAll us part all
@@ -63,11 +58,21 @@ module _ (r : List ℕ) (held : ℕ) (us sizes : List ℕ) (is : UsefulSets r he
           let first : mostCommon u (replacedSets r fs) ≤ ones (bitAnd all u) = rw (and-comm all u) (h 0 (omega arith)) in
           omega (arith, first, go l (λ k b. h (suc k) (omega arith)))
 
--- the first n of the sets and of the sizes were lent as parts
+  -- nor than the largest useful set has
+  pub most-of-largest : length r ≤ 32 → (fs : List (List ℕ)) → usefulMost r us fs ≤ largestOf us
+  most-of-largest narrow fs = rw (is .sets) (go (is .lives))
+    where
+      go : (ls : List (List ℕ)) → usefulMost r (usefulSets r (is .rest) ls) fs ≤ largestOf (usefulSets r (is .rest) ls)
+      go [] = omega arith
+      go (l ∷ ls) =
+          let u = usefulSet r (overlay l (is .rest)) in
+          let fits : u < 2 ^ 32 = omega (arith, bits-lt (length r) (useful r (overlay l (is .rest))), pow-mono {i = length r} {j = 32} narrow) in
+          omega (arith, most-ones u (replacedSets r fs) fits, go ls)
+
+-- the first n of the sets were lent as a part
 module _ (r rest : List ℕ) (ls : List (List ℕ)) (n : ℕ) (sets : List ℕ) (e : take n sets ≡ usefulSets r rest ls) where
-  pub lent-sets : (sizes : List ℕ) {held : ℕ} → held ≡ keptSet r rest → take n sizes ≡ usefulSizes r rest ls
-      → UsefulSets r held (take (n - 0) (drop 0 sets)) (take (n - 0) (drop 0 sizes))
-  lent-sets sizes is d = record { rest = rest; lives = ls; kept-is = is; sets = lent-first n sets ∙ e; sized = lent-first n sizes ∙ d }
+  pub lent-sets : {held : ℕ} → held ≡ keptSet r rest → UsefulSets r held (take (n - 0) (drop 0 sets))
+  lent-sets is = record { rest = rest; lives = ls; kept-is = is; sets = lent-first n sets ∙ e }
 
   pub lent-useful : (fs : List (List ℕ)) → pointMost r rest ls fs ≡ usefulMost r (take (n - 0) (drop 0 sets)) fs
   lent-useful fs = point-useful r rest ls fs ∙ ap (λ (us : List ℕ). usefulMost r us fs) (sym (lent-first n sets ∙ e))

@@ -19,13 +19,9 @@ use Rattle.gather.specs.Memory.{heldRows}
 abbrev pub usefulSet : List ℕ → List ℕ → ℕ
 usefulSet reaching live = bits (length reaching) (useful reaching live)
 
--- the useful sets of a reaching row at a point with each of some live rows of the block, and how many cache blocks each has: `rest` holds the first
--- references of what is left of the block
+-- the useful sets of a reaching row at a point with each of some live rows of the block: `rest` holds the first references of what is left of the block
 abbrev pub usefulSets : List ℕ → List ℕ → List (List ℕ) → List ℕ
 usefulSets r rest ls = map (λ (l : List ℕ). usefulSet r (overlay l rest)) ls
-
-abbrev pub usefulSizes : List ℕ → List ℕ → List (List ℕ) → List ℕ
-usefulSizes r rest ls = map (λ (l : List ℕ). ones (usefulSet r (overlay l rest))) ls
 
 -- the cache blocks of a reaching row that can be useful at the point: those where the rest holds nothing or the same memory block
 abbrev pub kept : List ℕ → List ℕ → ℕ → Bool
@@ -34,13 +30,12 @@ kept r rest c = used r c && not (replaces rest r c)
 abbrev pub keptSet : List ℕ → List ℕ → ℕ
 keptSet r rest = bits (length r) (kept r rest)
 
--- these are the useful sets of the row at a point with some live rows, and their sizes, and `held` are the cache blocks that can be useful there
-pub record UsefulSets (r : List ℕ) (held : ℕ) (us sizes : List ℕ) : Type 0 where
+-- these are the useful sets of the row at a point with some live rows, and `held` are the cache blocks that can be useful there
+pub record UsefulSets (r : List ℕ) (held : ℕ) (us : List ℕ) : Type 0 where
   pub rest : List ℕ
   pub lives : List (List ℕ)
   pub kept-is : held ≡ keptSet r rest
   pub sets : us ≡ usefulSets r rest lives
-  pub sized : sizes ≡ usefulSizes r rest lives
 
 -- the cache blocks of a reaching row r where the end row f "holds something there other than" what r holds, and those of each of some end rows
 abbrev pub replacedSet : List ℕ → List ℕ → ℕ
@@ -68,6 +63,10 @@ mostCommon u vs = best (λ (v : ℕ). ones (bitAnd u v)) vs
 -- the most that one of the sets us has in common with one of the sets vs
 abbrev pub setsMost : List ℕ → List ℕ → ℕ
 setsMost us vs = best (λ (u : ℕ). mostCommon u vs) us
+
+-- how many cache blocks the largest of some sets has
+abbrev pub largestOf : List ℕ → ℕ
+largestOf us = best ones us
 
 -- none of the sets us has more in common with one of the sets vs than with `all`
 abbrev pub NoMoreThanAll : List ℕ → List ℕ → ℕ → Type 0

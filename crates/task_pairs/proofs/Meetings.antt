@@ -22,6 +22,7 @@ use Rattle.rows.specs.Rows.{rowsOf}
 use Rattle.rows.proofs.Parts.{lent-front}
 use Rattle.points.specs.Points.{restOf, Rests, rowsIn, predecessorsOf, rowsBefore}
 use Rattle.points.proofs.Rests.{rows-more}
+use Rattle.pairs.specs.Lanes.{laneRows}
 use Rattle.pairs.specs.Pairs.{pointMost, Met}
 use Rattle.pairs.proofs.Meeting.{met-none, met-same, met-more}
 use Rattle.task_pairs.specs.TaskPairs.{doneMost, beforeMost, blockMost, taskMost}
@@ -68,9 +69,9 @@ rows-in-more set rs (suc n) p =
 -- ---- the numbers
 
 -- a row that was lent is w numbers wide
-pub as-wide : (w tasks lived : ℕ) (row rest live ends counts old new : List ℕ) → length row ≡ w
-    → Met (pointMost row rest (rowsOf (length row) lived live)) (length row) ends counts tasks old new → Met (pointMost row rest (rowsOf w lived live)) w ends counts tasks old new
-as-wide w tasks lived row rest live ends counts old new e h = rw (← e) h
+pub as-wide : (w tasks lived : ℕ) (row rest lanes ends counts old new : List ℕ) → length row ≡ w
+    → Met (pointMost row rest (laneRows (length row) lived lanes)) (length row) ends counts tasks old new → Met (pointMost row rest (laneRows w lived lanes)) w ends counts tasks old new
+as-wide w tasks lived row rest lanes ends counts old new e h = rw (← e) h
 
 module _ (w : ℕ) (ends counts : List ℕ) (tasks : ℕ) (k : Cache) (ms : List ℕ) (ls : List (List ℕ)) where
   module _ (row : List ℕ) where

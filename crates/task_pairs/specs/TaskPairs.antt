@@ -33,13 +33,13 @@ taskMost k t rs ls zero b fs = 0
 taskMost k t rs ls (suc left) b fs =
     max (cond (unmasked t b) (blockMost k (block t b .references) (ls b) (rowsBefore k (length t) (predecessorsOf t b) rs b) fs) 0) (taskMost k t rs ls left (suc b) fs)
 
--- what the points of a block are met by: its references, which are memory blocks, the rest rows of them, its live rows, and the end rows of each task,
--- in rows of w numbers
-pub record PointRows (w : ℕ) (shape : CacheShape) (references rests live : List ℕ) (lived : ℕ) (ends counts mixed : List ℕ) (tasks : ℕ) : Type 0 where
+-- what the points of a block are met by: its references, which are memory blocks, the rest rows of them, its live rows side by side, and the end rows
+-- of each task, in rows of w numbers
+pub record PointRows (w : ℕ) (shape : CacheShape) (references rests lanes : List ℕ) (lived : ℕ) (ends counts mixed : List ℕ) (tasks : ℕ) : Type 0 where
   pub holds : Holds w shape
   pub few : length references / 2 ≤ 16
   pub real : All Real (numbers references)
   pub left : Rests (shaped w shape) (numbers references) rests
-  pub long : length live ≡ 32 * w
+  pub long : length lanes ≡ 32 * w
   pub lives : lived ≤ 32
   pub ended : EndRows w ends counts mixed tasks

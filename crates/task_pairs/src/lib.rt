@@ -13,6 +13,7 @@ ghost use Rattle.body.specs.Walk.{keptOf};
 ghost use Rattle.rows.specs.Rows.{rowsOf};
 ghost use Rattle.gather.specs.Memory.{Memory, heldRows};
 ghost use Rattle.points.specs.Points.{rowsIn, rowsBefore};
+ghost use Rattle.pairs.specs.Lanes.{laneRows};
 ghost use Rattle.pairs.specs.Pairs.{EndRows, Met};
 ghost use Rattle.task_pairs.specs.TaskPairs.{doneMost, beforeMost, blockMost, taskMost, PointRows};
 use body::jumps::jumps;
@@ -22,6 +23,7 @@ use body::references;
 use body::walk;
 use cache::blocks::CacheShape;
 use graphs::task_rows::NO_ROWS;
+use pairs::lanes::lay_lanes;
 use pairs::numbers::meet_point;
 use points::done::hits_next;
 use points::done::refer_row;
@@ -37,7 +39,7 @@ fn meet_done(
     shape: CacheShape,
     w: usize,
     rests: &[u16],
-    live: &[u16],
+    lanes: &[u16],
     lived: usize,
     ends: &[u16],
     counts: &[usize],
@@ -45,10 +47,10 @@ fn meet_done(
     tasks: usize,
     numbers: &mut [u16],
 )
-    requires { ⌜ PointRows w shape (now references) (now rests) (now live) lived (now ends) (now counts) (now mixed) tasks
+    requires { ⌜ PointRows w shape (now references) (now rests) (now lanes) lived (now ends) (now counts) (now mixed) tasks
         × (length (now row) ≡ w) × (length (now numbers) ≡ 8) ⌝ }
     ensures { λ _. ⌜ (now (row .exit) ≡ withReferences (shaped w shape) (now (row .entry)) (referencesIn (now (references .entry))))
-        × Met (λ fs. best (doneMost (shaped w shape) (referencesIn (now (references .entry))) (rowsOf w lived (now (live .entry))) (now (row .entry)) fs)
+        × Met (λ fs. best (doneMost (shaped w shape) (referencesIn (now (references .entry))) (laneRows w lived (now (lanes .entry))) (now (row .entry)) fs)
         (upFrom 1 (length (now (references .entry)) / 2)))
         w (now (ends .entry)) (now (counts .entry)) tasks (now (numbers .entry)) (now (numbers .exit)) ⌝ }
 {
@@ -62,7 +64,7 @@ fn meet_done(
             meet_point(
                 row,
                 &rests[at..at + w],
-                live,
+                lanes,
                 lived,
                 ends,
                 counts,
@@ -82,7 +84,7 @@ fn meet_before(
     shape: CacheShape,
     w: usize,
     rests: &[u16],
-    live: &[u16],
+    lanes: &[u16],
     lived: usize,
     ends: &[u16],
     counts: &[usize],
@@ -90,16 +92,16 @@ fn meet_before(
     tasks: usize,
     numbers: &mut [u16],
 )
-    requires { ⌜ PointRows w shape (now references) (now rests) (now live) lived (now ends) (now counts) (now mixed) tasks
+    requires { ⌜ PointRows w shape (now references) (now rests) (now lanes) lived (now ends) (now counts) (now mixed) tasks
         × (length (now row) ≡ w) × (length (now numbers) ≡ 8) ⌝ }
-    ensures { λ _. ⌜ Met (beforeMost (shaped w shape) (referencesIn (now (references .entry))) (rowsOf w lived (now (live .entry))) (now (row .entry)))
+    ensures { λ _. ⌜ Met (beforeMost (shaped w shape) (referencesIn (now (references .entry))) (laneRows w lived (now (lanes .entry))) (now (row .entry)))
         w (now (ends .entry)) (now (counts .entry)) tasks (now (numbers .entry)) (now (numbers .exit)) ⌝ }
 {
     if references.len() < 2 {
         meet_point(
             row,
             &rests[0..w],
-            live,
+            lanes,
             lived,
             ends,
             counts,
@@ -117,7 +119,7 @@ fn meet_before(
         shape,
         w,
         rests,
-        live,
+        lanes,
         lived,
         ends,
         counts,
@@ -135,7 +137,7 @@ fn meet_rows(
     shape: CacheShape,
     w: usize,
     rests: &[u16],
-    live: &[u16],
+    lanes: &[u16],
     lived: usize,
     ends: &[u16],
     counts: &[usize],
@@ -143,9 +145,9 @@ fn meet_rows(
     tasks: usize,
     numbers: &mut [u16],
 )
-    requires { ⌜ PointRows w shape (now references) (now rests) (now live) lived (now ends) (now counts) (now mixed) tasks
+    requires { ⌜ PointRows w shape (now references) (now rests) (now lanes) lived (now ends) (now counts) (now mixed) tasks
         × (length (now rows) ≡ 32 * w) × (count ≤ 32) × (length (now numbers) ≡ 8) ⌝ }
-    ensures { λ _. ⌜ Met (blockMost (shaped w shape) (referencesIn (now (references .entry))) (rowsOf w lived (now (live .entry)))
+    ensures { λ _. ⌜ Met (blockMost (shaped w shape) (referencesIn (now (references .entry))) (laneRows w lived (now (lanes .entry)))
         (rowsOf w count (now (rows .entry))))
         w (now (ends .entry)) (now (counts .entry)) tasks (now (numbers .entry)) (now (numbers .exit)) ⌝ }
 {
@@ -157,7 +159,7 @@ fn meet_rows(
             shape,
             w,
             rests,
-            live,
+            lanes,
             lived,
             ends,
             counts,
@@ -178,7 +180,7 @@ fn meet_entering(
     shape: CacheShape,
     w: usize,
     rests: &[u16],
-    live: &[u16],
+    lanes: &[u16],
     lived: usize,
     ends: &[u16],
     counts: &[usize],
@@ -186,9 +188,9 @@ fn meet_entering(
     tasks: usize,
     numbers: &mut [u16],
 )
-    requires { ⌜ PointRows w shape (now references) (now rests) (now live) lived (now ends) (now counts) (now mixed) tasks
+    requires { ⌜ PointRows w shape (now references) (now rests) (now lanes) lived (now ends) (now counts) (now mixed) tasks
         × (blocks ≤ 24) × Memory w (now reaching) (now reached) × (length (now numbers) ≡ 8) ⌝ }
-    ensures { λ _. ⌜ Met (blockMost (shaped w shape) (referencesIn (now (references .entry))) (rowsOf w lived (now (live .entry)))
+    ensures { λ _. ⌜ Met (blockMost (shaped w shape) (referencesIn (now (references .entry))) (laneRows w lived (now (lanes .entry)))
         (rowsIn set (heldRows w (now (reaching .entry)) (now (reached .entry))) blocks 0))
         w (now (ends .entry)) (now (counts .entry)) tasks (now (numbers .entry)) (now (numbers .exit)) ⌝ }
 {
@@ -203,7 +205,7 @@ fn meet_entering(
                 shape,
                 w,
                 rests,
-                live,
+                lanes,
                 lived,
                 ends,
                 counts,
@@ -216,7 +218,69 @@ fn meet_entering(
 }
 
 // The points of the block b are met, for each row before it: the empty row before block 0, and the reaching rows of its predecessors, which are the
-// blocks of the set.
+// blocks of the set. The live rows of the block lie side by side.
+fn meet_lanes(
+    b: usize,
+    blocks: usize,
+    set: u32,
+    reaching: &[u16],
+    reached: &[usize],
+    references: &[u8],
+    shape: CacheShape,
+    w: usize,
+    lanes: &[u16],
+    lived: usize,
+    ends: &[u16],
+    counts: &[usize],
+    mixed: &[u32],
+    tasks: usize,
+    numbers: &mut [u16],
+)
+    requires { ⌜ Holds w shape × (length (now references) / 2 ≤ 16) × All Real (referencesIn (now references)) × (length (now lanes) ≡ 32 * w) × (lived ≤ 32)
+        × EndRows w (now ends) (now counts) (now mixed) tasks × (blocks ≤ 24) × Memory w (now reaching) (now reached) × (length (now numbers) ≡ 8) ⌝ }
+    ensures { λ _. ⌜ Met (blockMost (shaped w shape) (referencesIn (now (references .entry))) (laneRows w lived (now (lanes .entry)))
+        (rowsBefore (shaped w shape) blocks set (heldRows w (now (reaching .entry)) (now (reached .entry))) b))
+        w (now (ends .entry)) (now (counts .entry)) tasks (now (numbers .entry)) (now (numbers .exit)) ⌝ }
+{
+    let room = 17 * w;
+    let mut left = [0u16; 544];
+    rests(references, shape, w, &mut left[0..room]);
+    if b == 0 {
+        meet_before(
+            &NO_ROWS[0..w],
+            references,
+            shape,
+            w,
+            &left[0..room],
+            lanes,
+            lived,
+            ends,
+            counts,
+            mixed,
+            tasks,
+            numbers,
+        );
+    }
+    meet_entering(
+        blocks,
+        set,
+        reaching,
+        reached,
+        references,
+        shape,
+        w,
+        &left[0..room],
+        lanes,
+        lived,
+        ends,
+        counts,
+        mixed,
+        tasks,
+        numbers,
+    );
+}
+
+// The same, for live rows one after the other.
 fn meet_block(
     b: usize,
     blocks: usize,
@@ -240,26 +304,11 @@ fn meet_block(
         (rowsBefore (shaped w shape) blocks set (heldRows w (now (reaching .entry)) (now (reached .entry))) b))
         w (now (ends .entry)) (now (counts .entry)) tasks (now (numbers .entry)) (now (numbers .exit)) ⌝ }
 {
-    let room = 17 * w;
-    let mut left = [0u16; 544];
-    rests(references, shape, w, &mut left[0..room]);
-    if b == 0 {
-        meet_before(
-            &NO_ROWS[0..w],
-            references,
-            shape,
-            w,
-            &left[0..room],
-            live,
-            lived,
-            ends,
-            counts,
-            mixed,
-            tasks,
-            numbers,
-        );
-    }
-    meet_entering(
+    let all = 32 * w;
+    let mut lanes = [0u16; 1024];
+    lay_lanes(live, lived, w, &mut lanes[0..all]);
+    meet_lanes(
+        b,
         blocks,
         set,
         reaching,
@@ -267,8 +316,7 @@ fn meet_block(
         references,
         shape,
         w,
-        &left[0..room],
-        live,
+        &lanes[0..all],
         lived,
         ends,
         counts,

@@ -5,13 +5,13 @@ use lib.ListN.{length, take, drop, replicate}
 use Rattle.cache.specs.References.{numbers as referencesIn}
 use Rattle.cache.specs.Shape.{shaped}
 use Rattle.cache.proofs.NumberLaws.{length-numbers}
-use Rattle.rows.specs.Rows.{rowsOf}
 use Rattle.rows.proofs.Parts.{lent-front, front-long, front-room}
 use Rattle.graphs.proofs.Gathered.{first-row, first-wide}
 use Rattle.task_pairs.proofs.Meetings.{no-references, as-wide, met-one, met-some}
 use borrow.Author.Needs.{needs}
 use native.Mathlib.Omega.{arith}
 use Rattle.task_pairs.proofs.meet_before.Statement.{statement}
+use Rattle.pairs.specs.Lanes.{laneRows}
 use Rattle.task_pairs.proofs.meet_before.Tie as tie
 
 sub-meet-point : tie.Need-sub-meet-point
@@ -39,9 +39,9 @@ returns c =
     let args = start .args in
     let k = shaped (args .w) (args .shape) in
     let ms = referencesIn (args .references .now) in
-    let met = as-wide (args .w) (args .tasks) (args .lived) (args .row .now) (take (args .w - 0) (drop 0 (args .rests .now))) (args .live .now) (args .ends .now) (args .counts .now) (args .numbers .now)
+    let met = as-wide (args .w) (args .tasks) (args .lived) (args .row .now) (take (args .w - 0) (drop 0 (args .rests .now))) (args .lanes .now) (args .ends .now) (args .counts .now) (args .numbers .now)
     (c .before .before .meet-point .last .1 .1 .1 .1 .1 .1 .1 .1 .0) (start .pre .1) (c .before .before .meet-point .ensures) in
-    met-one (args .w) (args .ends .now) (args .counts .now) (args .tasks) k ms (rowsOf (args .w) (args .lived) (args .live .now)) (args .row .now)
+    met-one (args .w) (args .ends .now) (args .counts .now) (args .tasks) k ms (laneRows (args .w) (args .lived) (args .lanes .now)) (args .row .now)
     (no-references (args .references .now) (c .before .before .before .before .before .if1 .taken)) (first-row (args .w) (args .rests .now) ∙ start .pre .0 .left .each 0 (omega arith)) met
 
 sub-copy-row : tie.Need-sub-copy-row
@@ -80,7 +80,7 @@ returns-2 c =
     let start = c .before .before .before .before .before .before .before .before .before .before .before .before .before .before .before .before .before .before in
     let args = start .args in
     let refs = args .references .now in
-    met-some (args .w) (args .ends .now) (args .counts .now) (args .tasks) (shaped (args .w) (args .shape)) (referencesIn refs) (rowsOf (args .w) (args .lived) (args .live .now)) (args .row .now)
+    met-some (args .w) (args .ends .now) (args .counts .now) (args .tasks) (shaped (args .w) (args .shape)) (referencesIn refs) (laneRows (args .w) (args .lived) (args .lanes .now)) (args .row .now)
     (length refs / 2) (sym (length-numbers refs)) (omega (arith, c .before .before .before .before .before .before .before .before .before .if1 .left)) (lent-front (args .w) (replicate 32 0) (args .row .now) (c .before .before .before .before .before .before .before .copy-row .ensures) (start .pre .1)) (c .before .before .before .meet-done .ensures .1)
 
 pub meet-before-spec : {M : Type 1} → statement M

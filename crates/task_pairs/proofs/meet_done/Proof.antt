@@ -10,7 +10,6 @@ use Rattle.cache.specs.References.{numbers as referencesIn}
 use Rattle.cache.specs.Cache.{withReferences}
 use Rattle.cache.specs.Shape.{shaped}
 use Rattle.cache.proofs.NumberLaws.{length-numbers}
-use Rattle.rows.specs.Rows.{rowsOf}
 use Rattle.rows.proofs.Parts.{row-within}
 use Rattle.points.specs.Points.{hitsNext}
 use Rattle.points.proofs.DoneRows.{one-done, all-done}
@@ -19,15 +18,16 @@ use Rattle.task_pairs.proofs.PassedOver.{SoFar, none-so-far, all-so-far
 use borrow.Author.Needs.{needs}
 use native.Mathlib.Omega.{arith}
 use Rattle.task_pairs.proofs.meet_done.Statement.{statement}
+use Rattle.pairs.specs.Lanes.{laneRows}
 use Rattle.task_pairs.proofs.meet_done.Tie as tie
 
 abbrev Inv-loop : tie.InvT-loop
-Inv-loop row₀ references shape w rests live lived ends counts mixed tasks numbers₀ count rising₀ i₀ row numbers rising i =
+Inv-loop row₀ references shape w rests lanes lived ends counts mixed tasks numbers₀ count rising₀ i₀ row numbers rising i =
     (i ≤ count) × (length row ≡ w) × (length numbers ≡ 8) × (row ≡ withReferences (shaped w shape) row₀ (take i (referencesIn references)))
-    × SoFar w ends counts tasks (shaped w shape) (referencesIn references) row₀ (rowsOf w lived live) rising i numbers₀ numbers
+    × SoFar w ends counts tasks (shaped w shape) (referencesIn references) row₀ (laneRows w lived lanes) rising i numbers₀ numbers
 
 abbrev μ-loop : tie.MeasureT-loop
-μ-loop row₀ references shape w rests live lived ends counts mixed tasks numbers₀ count rising₀ i₀ row numbers rising i = count - i
+μ-loop row₀ references shape w rests lanes lived ends counts mixed tasks numbers₀ count rising₀ i₀ row numbers rising i = count - i
 
 -- where the rest row after the reference numbered i ends
 inside : (c : tie.In-loop Inv-loop μ-loop) → let w = c .before .before .before .before .before .before .before .before .before .before .args .w in (w * (c .before .loop .i + 1) + w ≤ w * 17) × (w ≤ 32) × (c .before .loop .i + 1 < 17)
@@ -45,7 +45,7 @@ loop-holds c =
       start .pre .1,
       start .pre .2,
       refl,
-      none-so-far (args .w) (args .ends .now) (args .counts .now) (args .tasks) (shaped (args .w) (args .shape)) ms (args .row .now) (rowsOf (args .w) (args .lived) (args .live .now))
+      none-so-far (args .w) (args .ends .now) (args .counts .now) (args .tasks) (shaped (args .w) (args .shape)) ms (args .row .now) (laneRows (args .w) (args .lived) (args .lanes .now))
           (args .numbers .now) (ltb 0 (length (args .references .now) / 2)) (ap (ltb 0) (length-numbers (args .references .now))),
     )
 
@@ -101,7 +101,7 @@ loop-again c =
     let w = args .w in
     let k = shaped w (args .shape) in
     let ms = referencesIn (args .references .now) in
-    let ls = rowsOf w (args .lived) (args .live .now) in
+    let ls = laneRows w (args .lived) (args .lanes .now) in
     let low : at .i < length ms = omega (arith, length-numbers (args .references .now), c .before .before .before .before .before .before .before .loop-test .taken) in
     let row = c .before .before .before .before .before .refer-row .last .1 .1 .1 .0 in
     let wide = c .before .before .before .before .before .refer-row .kept .1 .1 .1 .0 ∙ at .inv .1 in
@@ -117,7 +117,7 @@ loop-again c =
         v .5 .kept .1 .1 .1 .1 .1 .1 .1 .1 .0 ∙ at .inv .2,
         right-next w (args .ends .now) (args .counts .now) (args .tasks) k ms (args .row .now) ls (start .pre .1) (start .pre .0 .real) (at .i) done top top-is
             (top-met w (args .ends .now) (args .counts .now) (args .tasks) k ms (args .row .now) ls (at .i) (v .0 .taken) done left (at .inv .4)
-            (as-wide w (args .tasks) (args .lived) row rest (args .live .now) (args .ends .now) (args .counts .now) (at .numbers) (v .5 .last .1 .1 .1 .1 .1 .1 .1 .1 .0) wide (v .5 .ensures))),
+            (as-wide w (args .tasks) (args .lived) row rest (args .lanes .now) (args .ends .now) (args .counts .now) (at .numbers) (v .5 .last .1 .1 .1 .1 .1 .1 .1 .1 .0) wide (v .5 .ensures))),
       )
       | inr v ↦ rw (v .1) (
         at .inv .2,
@@ -142,7 +142,7 @@ returns c =
     let end : at .i ≡ length (args .references .now) / 2 = omega arith in (
       all-done (shaped (args .w) (args .shape)) ms (args .row .now) (at .i) (end ∙ sym (length-numbers (args .references .now))) (at .inv .3),
       rw (← end)
-          (all-so-far (args .w) (args .ends .now) (args .counts .now) (args .tasks) (shaped (args .w) (args .shape)) ms (args .row .now) (rowsOf (args .w) (args .lived) (args .live .now)) (at .i)
+          (all-so-far (args .w) (args .ends .now) (args .counts .now) (args .tasks) (shaped (args .w) (args .shape)) ms (args .row .now) (laneRows (args .w) (args .lived) (args .lanes .now)) (at .i)
           (at .rising) (omega (arith, end, length-numbers (args .references .now))) (at .inv .4)),
     )
 

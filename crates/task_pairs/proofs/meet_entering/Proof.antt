@@ -6,11 +6,11 @@ use lib.ListN.{length}
 use Rattle.cache.specs.References.{numbers as referencesIn}
 use Rattle.cache.specs.Shape.{shaped}
 use Rattle.cache.proofs.Members.{in-word, out-word}
-use Rattle.rows.specs.Rows.{rowsOf}
 use Rattle.rows.proofs.Parts.{row-within}
 use Rattle.gather.specs.Memory.{heldRows}
 use Rattle.points.specs.Points.{rowsIn}
 use Rattle.points.proofs.Rests.{lent-long}
+use Rattle.pairs.specs.Lanes.{laneRows}
 use Rattle.pairs.specs.Pairs.{Met}
 use Rattle.pairs.proofs.Meeting.{held-at, met-none}
 use Rattle.task_pairs.specs.TaskPairs.{blockMost}
@@ -21,12 +21,12 @@ use Rattle.task_pairs.proofs.meet_entering.Statement.{statement}
 use Rattle.task_pairs.proofs.meet_entering.Tie as tie
 
 abbrev Inv-loop : tie.InvT-loop
-Inv-loop blocks set reaching reached references shape w rests live lived ends counts mixed tasks numbers₀ part p₀ numbers p =
+Inv-loop blocks set reaching reached references shape w rests lanes lived ends counts mixed tasks numbers₀ part p₀ numbers p =
     (p ≤ blocks) × (length numbers ≡ 8)
-    × Met (blockMost (shaped w shape) (referencesIn references) (rowsOf w lived live) (rowsIn set (heldRows w reaching reached) p 0)) w ends counts tasks numbers₀ numbers
+    × Met (blockMost (shaped w shape) (referencesIn references) (laneRows w lived lanes) (rowsIn set (heldRows w reaching reached) p 0)) w ends counts tasks numbers₀ numbers
 
 abbrev μ-loop : tie.MeasureT-loop
-μ-loop blocks set reaching reached references shape w rests live lived ends counts mixed tasks numbers₀ part p₀ numbers p = blocks - p
+μ-loop blocks set reaching reached references shape w rests lanes lived ends counts mixed tasks numbers₀ part p₀ numbers p = blocks - p
 
 -- where the rows of block p end
 inside : (c : tie.In-loop Inv-loop μ-loop) → let w = c .before .before .before .before .before .before .before .before .before .before .before .args .w in (32 * w * c .before .loop .p + 32 * w ≤ 24 * (32 * w)) × (w ≤ 32)
@@ -41,7 +41,7 @@ loop-holds : tie.Need-loop-holds Inv-loop μ-loop
 loop-holds c =
     let start = c .before .before .before .before .before .before .before .before .before in
     let args = start .args in
-    let none = blockMost (shaped (args .w) (args .shape)) (referencesIn (args .references .now)) (rowsOf (args .w) (args .lived) (args .live .now))
+    let none = blockMost (shaped (args .w) (args .shape)) (referencesIn (args .references .now)) (laneRows (args .w) (args .lived) (args .lanes .now))
     (rowsIn (args .set) (heldRows (args .w) (args .reaching .now) (args .reached .now)) 0 0) in
     (omega arith, start .pre .3, met-none (args .w) (args .ends .now) (args .counts .now) none (args .tasks) (args .numbers .now) (λ fs. refl))
 
@@ -97,7 +97,7 @@ loop-again c =
     let w = args .w in
     let k = shaped w (args .shape) in
     let ms = referencesIn (args .references .now) in
-    let ls = rowsOf w (args .lived) (args .live .now) in
+    let ls = laneRows w (args .lived) (args .lanes .now) in
     let rs = heldRows w (args .reaching .now) (args .reached .now) in
     let below : at .p < 32 = omega (arith, start .pre .1, c .before .loop-test .taken) in
     let next : Met (blockMost k ms ls (rowsIn (args .set) rs (at .p + 1) 0)) w (args .ends .now) (args .counts .now) (args .tasks) (args .numbers .now) (c .if1 .numbers)

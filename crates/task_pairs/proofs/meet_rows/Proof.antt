@@ -7,6 +7,7 @@ use Rattle.cache.specs.Shape.{shaped}
 use Rattle.rows.specs.Rows.{rowsOf}
 use Rattle.rows.proofs.Parts.{row-within}
 use Rattle.points.proofs.Rests.{lent-long}
+use Rattle.pairs.specs.Lanes.{laneRows}
 use Rattle.pairs.specs.Pairs.{Met}
 use Rattle.pairs.proofs.Meeting.{met-none}
 use Rattle.task_pairs.specs.TaskPairs.{blockMost}
@@ -17,12 +18,12 @@ use Rattle.task_pairs.proofs.meet_rows.Statement.{statement}
 use Rattle.task_pairs.proofs.meet_rows.Tie as tie
 
 abbrev Inv-loop : tie.InvT-loop
-Inv-loop rows count references shape w rests live lived ends counts mixed tasks numbers₀ k₀ numbers k =
+Inv-loop rows count references shape w rests lanes lived ends counts mixed tasks numbers₀ k₀ numbers k =
     (k ≤ count) × (length numbers ≡ 8)
-    × Met (blockMost (shaped w shape) (referencesIn references) (rowsOf w lived live) (rowsOf w k rows)) w ends counts tasks numbers₀ numbers
+    × Met (blockMost (shaped w shape) (referencesIn references) (laneRows w lived lanes) (rowsOf w k rows)) w ends counts tasks numbers₀ numbers
 
 abbrev μ-loop : tie.MeasureT-loop
-μ-loop rows count references shape w rests live lived ends counts mixed tasks numbers₀ k₀ numbers k = count - k
+μ-loop rows count references shape w rests lanes lived ends counts mixed tasks numbers₀ k₀ numbers k = count - k
 
 -- where the row numbered k ends
 inside : (c : tie.In-loop Inv-loop μ-loop) → let w = c .before .before .before .before .before .before .before .before .before .before .args .w in (w * c .before .loop .k + w ≤ w * 32) × (w ≤ 32)
@@ -34,7 +35,7 @@ loop-holds : tie.Need-loop-holds Inv-loop μ-loop
 loop-holds c =
     let start = c .before .before .before .before .before .before .before .before in
     let args = start .args in
-    let none = blockMost (shaped (args .w) (args .shape)) (referencesIn (args .references .now)) (rowsOf (args .w) (args .lived) (args .live .now)) (rowsOf (args .w) 0 (args .rows .now)) in
+    let none = blockMost (shaped (args .w) (args .shape)) (referencesIn (args .references .now)) (laneRows (args .w) (args .lived) (args .lanes .now)) (rowsOf (args .w) 0 (args .rows .now)) in
     (omega arith, start .pre .3, met-none (args .w) (args .ends .now) (args .counts .now) none (args .tasks) (args .numbers .now) (λ fs. refl))
 
 mul-at : tie.Need-mul-at Inv-loop μ-loop
@@ -73,7 +74,7 @@ loop-again c =
     let at = c .before .before .before .before .before .before .loop in
     let args = start .args in
     let k = shaped (args .w) (args .shape) in
-    let ls = rowsOf (args .w) (args .lived) (args .live .now) in (
+    let ls = laneRows (args .w) (args .lived) (args .lanes .now) in (
       omega (arith, c .before .before .before .before .before .loop-test .taken),
       search needs,
       met-row (args .w) (args .ends .now) (args .counts .now) (args .tasks) k (referencesIn (args .references .now)) ls (args .rows .now) (at .k) (at .inv .2) (c .before .before .meet-before .ensures),

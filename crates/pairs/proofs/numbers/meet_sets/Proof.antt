@@ -14,10 +14,10 @@ use Rattle.pairs.proofs.numbers.meet_sets.Statement.{statement}
 use Rattle.pairs.proofs.numbers.meet_sets.Tie as tie
 
 abbrev Inv-loop : tie.InvT-loop
-Inv-loop row held useful sizes ends counts mixed tasks numbers₀ w part j₀ numbers j = (j ≤ tasks) × (length numbers ≡ 8) × Met (usefulMost row useful) (length row) ends counts j numbers₀ numbers
+Inv-loop row held useful ends counts mixed tasks numbers₀ most w part j₀ numbers j = (j ≤ tasks) × (length numbers ≡ 8) × Met (usefulMost row useful) (length row) ends counts j numbers₀ numbers
 
 abbrev μ-loop : tie.MeasureT-loop
-μ-loop row held useful sizes ends counts mixed tasks numbers₀ w part j₀ numbers j = tasks - j
+μ-loop row held useful ends counts mixed tasks numbers₀ most w part j₀ numbers j = tasks - j
 
 -- where the end rows of task j end, and the row for them
 inside : (c : tie.In-loop Inv-loop μ-loop) → let w = length (c .before .before .before .before .before .before .before .before .before .args .row .now) in
@@ -27,6 +27,9 @@ inside c =
     let below : c .before .loop .j < 8 = omega (arith, start .pre .0 .inside) in
     let w = length (start .args .row .now) in
     (omega (arith, row-within (32 * w) (c .before .loop .j) 8 below), start .pre .0 .width .narrow, below, omega (arith, row-within w (c .before .loop .j) 8 below))
+
+largest-requires : tie.Need-largest-requires Inv-loop μ-loop
+largest-requires c κs = search needs
 
 mul-part : tie.Need-mul-part Inv-loop μ-loop
 mul-part c = omega (arith, c .before .before .before .before .before .before .before .pre .0 .width .narrow)
@@ -116,6 +119,7 @@ raised-by-row-requires c κs =
     let joined = lent-joined w (args .ends .now) (args .counts .now) (args .mixed .now) (args .tasks) j (start .pre .0) (omega arith) in (
       start .pre .0 .width,
       start .pre .1,
+      c .before .before .before .before .before .before .before .before .largest .ensures,
       lent-ends w (args .ends .now) (args .counts .now) (args .mixed .now) (args .tasks) j (start .pre .0) (omega arith),
       start .pre .0 .few j (inside (c .before .before .before .before .before .before) .2),
       c .before .before .before .replaced-by-some .ensures fs joined
@@ -159,6 +163,7 @@ meet-sets-spec =
     (tie.spec
     Inv-loop
     μ-loop
+    largest-requires
     mul-part
     loop-holds
     mul-at

@@ -4,6 +4,8 @@ use mathlib.Core.Logic.{inl, inr}
 use Prim.Native.Nat.{_-_, _≤_, max}
 use native.Mathlib.Omega.{arith}
 use borrow.Author.Needs.{needs}
+use lib.Bits.{bitAnd}
+use lib.Count.{ones}
 use lib.ListN.{length, drop}
 use Rattle.pairs.specs.Pairs.{mostCommon}
 use Rattle.pairs.proofs.Meeting.{most-turn, most-end}
@@ -39,13 +41,13 @@ loop-again c =
     let at = c .before .before .before .before .loop in
     let args = c .before .before .before .before .before .before .args in
     let larger : c .if1 .most ≡ max (at .most) (c .before .common .result) = elim (c .if1 .came) [ inl w ↦ w .1 ∙ omega arith | inr w ↦ w .1 ∙ omega arith ] in
-    (omega arith, most-turn (args .set) (args .sets .now) (at .k) (at .most) (omega arith) (c .before .common .ensures) larger (at .inv .1))
+    (omega arith, most-turn (λ v. ones (bitAnd (args .set) v)) (args .sets .now) (at .k) (at .most) (omega arith) (c .before .common .ensures) larger (at .inv .1))
 
 returns : tie.Need-returns Inv-loop μ-loop
 returns c =
     let at = c .before .loop in
     let args = c .before .before .before .args in
-    most-end (args .set) (args .sets .now) (at .k) (at .most) (omega arith) (at .inv .1)
+    most-end (λ v. ones (bitAnd (args .set) v)) (args .sets .now) (at .k) (at .most) (omega arith) (at .inv .1)
 
 pub most-common-spec : {M : Type 1} → statement M
 most-common-spec =

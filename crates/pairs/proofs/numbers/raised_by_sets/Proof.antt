@@ -1,23 +1,20 @@
 -- `numbers::raised_by_sets` meets its contract: the number so far and the useful sets that are left give the most. Assumes nothing.
-use mathlib.Core.Path.{_≡_, refl, ap, _∙_}
-use mathlib.Core.List.{List}
-use Prim.Native.Nat.{ℕ, _-_, _≤_, max}
+use mathlib.Core.Path.{_≡_, refl}
+use Prim.Native.Nat.{_-_, _≤_, max}
 use native.Mathlib.Omega.{arith}
 use borrow.Author.Needs.{needs}
-use lib.Count.{ones}
-use lib.ListN.{length, getD, drop, length-map}
+use lib.ListN.{length, drop}
 use Rattle.pairs.specs.Pairs.{setsMost}
 use Rattle.pairs.proofs.Meeting.{sets-turn, sets-end}
-use Rattle.pairs.proofs.UsefulSets.{size-at}
 use Rattle.pairs.proofs.numbers.raised_by_sets.Statement.{statement}
 use Rattle.pairs.proofs.numbers.raised_by_sets.Tie as tie
 
 abbrev Inv-loop : tie.InvT-loop
-Inv-loop number useful sizes sets all most₀ k₀ k-end most k =
+Inv-loop number useful sets all most₀ k₀ k-end most k =
     (k ≤ length useful) × (max most (setsMost (drop k useful) sets) ≡ max number (setsMost useful sets))
 
 abbrev μ-loop : tie.MeasureT-loop
-μ-loop number useful sizes sets all most₀ k₀ k-end most k = length useful - k
+μ-loop number useful sets all most₀ k₀ k-end most k = length useful - k
 
 loop-holds : tie.Need-loop-holds Inv-loop μ-loop
 loop-holds c = (omega arith, refl)
@@ -28,19 +25,8 @@ mul-raised c = search needs
 shared-slice-read-raised : tie.Need-shared-slice-read-raised Inv-loop μ-loop
 shared-slice-read-raised c = search needs
 
-mul-raised-2 : tie.Need-mul-raised-2 Inv-loop μ-loop
-mul-raised-2 c = search needs
-
-shared-slice-read-raised-2 : tie.Need-shared-slice-read-raised-2 Inv-loop μ-loop
-shared-slice-read-raised-2 c =
-    let start = c .before .before .before .before .before .before .before in
-    omega (arith, ap length (start .pre .0), length-map (start .args .useful .now) ones)
-
 raised-requires : tie.Need-raised-requires Inv-loop μ-loop
-raised-requires c κs =
-    let start = c .before .before .before .before .before .before .before in
-    let k = c .before .before .before .loop .k in
-    (ap (λ (l : List ℕ). getD l k 0) (start .pre .0) ∙ size-at (start .args .useful .now) k (omega arith), start .pre .1 k (omega arith))
+raised-requires c κs = c .before .before .before .before .before .pre (c .before .before .loop .k) (omega arith)
 
 add-k : tie.Need-add-k Inv-loop μ-loop
 add-k c = search needs
@@ -50,14 +36,14 @@ loop-less c = search needs
 
 loop-again : tie.Need-loop-again Inv-loop μ-loop
 loop-again c =
-    let at = c .before .before .before .before .loop in
-    let args = c .before .before .before .before .before .before .before .before .args in
+    let at = c .before .before .before .loop in
+    let args = c .before .before .before .before .before .before .args in
     (omega arith, sets-turn (args .useful .now) (args .sets .now) (args .number) (at .k) (at .most) (omega arith) (c .raised .ensures) (at .inv .1))
 
 returns : tie.Need-returns Inv-loop μ-loop
 returns c =
     let at = c .before .loop in
-    let args = c .before .before .before .before .before .args in
+    let args = c .before .before .before .before .args in
     sets-end (args .useful .now) (args .sets .now) (args .number) (at .k) (at .most) (omega arith) (at .inv .1)
 
 pub raised-by-sets-spec : {M : Type 1} → statement M
@@ -69,8 +55,6 @@ raised-by-sets-spec =
     loop-holds
     mul-raised
     shared-slice-read-raised
-    mul-raised-2
-    shared-slice-read-raised-2
     raised-requires
     add-k
     loop-less
