@@ -19,7 +19,8 @@ use Rattle.project.proofs.Checklists.{passed-computed}
 use Rattle.project.proofs.TaskFaults.{Bytes}
 use Rattle.project.proofs.Verdicts.{file-agreeing}
 use Rattle.reader.proofs.TaskBodies.{reading, passing-accepted}
-use Rattle.table.specs.Table.{entryOf, rowsFrom, tableCheck, pickTable, tableOf}
+use Rattle.file_pairs.specs.FilePairs.{entryOf, rowsFrom, tableOf}
+use Rattle.table.specs.Table.{tableCheck, pickTable}
 use Rattle.claims.specs.OldTables.{oldEntry, oldTable, OldTables}
 
 -- tables of equal entries

@@ -18,7 +18,8 @@ use Rattle.project.specs.Reading.{fileChecks}
 use Rattle.project.specs.Filling.{pickFilling}
 use Rattle.states.specs.Filling.{taskCheck, fillingOf}
 use Rattle.states.proofs.AreaStates.{count-at}
-use Rattle.table.specs.Table.{fullChecks, tableOf, tableCheck, pickTable}
+use Rattle.file_pairs.specs.FilePairs.{tableOf}
+use Rattle.table.specs.Table.{fullChecks, tableCheck, pickTable}
 use Rattle.sheet.specs.Parsed.{preemptionsFrom, afterPath, parse}
 use Rattle.claims.specs.Files.{figureAndBlock, figureAndFork, fiveForks}
 use Rattle.claims.specs.Papers.{TableHolds, StatesCount, Papers}

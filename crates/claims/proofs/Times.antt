@@ -16,7 +16,8 @@ use Rattle.project.specs.File.{taskCount}
 use Rattle.project.specs.Reading.{readingOf}
 use Rattle.project.specs.Tasks.{tasksOf, fileCache, filePair}
 use Rattle.project.proofs.Accepted.{passing, accepted-passed}
-use Rattle.table.specs.Table.{tableCheck, entryOf, tableOf}
+use Rattle.file_pairs.specs.FilePairs.{entryOf, tableOf}
+use Rattle.table.specs.Table.{tableCheck}
 use Rattle.microseconds.specs.declared.Timing.{Timing}
 use Rattle.microseconds.specs.declared.Timing.the-variants.{Timed, Refused}
 use Rattle.microseconds.specs.Microseconds.{largestNumber, Fault17, ExactTime, timingOf, MicrosecondsVerdict}

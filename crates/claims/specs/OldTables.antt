@@ -12,7 +12,8 @@ use Rattle.project.specs.File.{File, cacheBlocks, taskCount}
 use Rattle.project.specs.Reading.{readingOf}
 use Rattle.project.specs.Tasks.{tasksOf, fileCache}
 use Rattle.rows.specs.Rows.{Area}
-use Rattle.table.specs.Table.{rowsFrom, tableCheck, pickTable, tableAfter}
+use Rattle.file_pairs.specs.FilePairs.{rowsFrom}
+use Rattle.table.specs.Table.{tableCheck, pickTable, tableAfter}
 
 -- the table by the count before Point 5: at 8 i + j "the most cache blocks both useful in i and used by j", over the points of Point 6, and 0 on the
 -- diagonal and for absent tasks

@@ -10,7 +10,7 @@ use lib.ListN.{length, getD, take, drop, length-drop}
 use borrow.Author.Tests.{eqb-true, eqb-false, ltb-true, ltb-false}
 use Rattle.cache.specs.Sets.{inSet}
 use Rattle.rows.specs.Overlay.{overlay}
-use Rattle.rows.specs.Rows.{partOf}
+use Rattle.rows.specs.Rows.{partOf, rowsOf}
 use Rattle.gather.specs.Graph.{rowAt}
 use Rattle.gather.specs.Memory.{heldRows, Memory, withRow, AppendedTo, Handed, FullAt, HandedOn}
 use lib.Seq.{drop-drop, length-take-le}
@@ -31,6 +31,13 @@ row-lent w rows counts b k h l =
     let inside : w * k + w ≤ 32 * w = omega (arith, row-within w k 32 (omega arith)) in
     rw n (sym (rows-at w (getD counts b 0) k (partOf w rows b) h
     ∙ part-of-part w (w * k) (32 * w) (drop (32 * w * b) rows) inside ∙ ap (take w) (drop-drop (w * k) (32 * w * b) rows)))
+
+-- the rows of block b, or the end rows of task b, were lent as a part from 32 w b to 32 w b + 32 w
+pub held-at : (w : ℕ) (rows counts : List ℕ) (b : ℕ)
+    → rowsOf w (getD counts b 0) (take (32 * w * b + 32 * w - 32 * w * b) (drop (32 * w * b) rows)) ≡ heldRows w rows counts b
+held-at w rows counts b =
+    let s : 32 * w * b + 32 * w - 32 * w * b ≡ 32 * w = omega arith in
+    ap (λ (n : ℕ). rowsOf w (getD counts b 0) (take n (drop (32 * w * b) rows))) s
 
 -- ---- the turns
 

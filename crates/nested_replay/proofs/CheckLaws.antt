@@ -23,7 +23,7 @@ use Rattle.project.specs.Tasks.{tasksOf}
 use Rattle.sheet.specs.Parsed.{completePath, rightDone}
 use Rattle.runs.specs.Running.{PathIn}
 use Rattle.runs.specs.Parts.{referencesAt}
-use Rattle.replay.proofs.OwnPath.{complete-blocks}
+use Rattle.sheet.proofs.CompletePaths.{complete-blocks}
 use Rattle.nested_sheet.specs.NestedSheet.{ListInRules}
 use Rattle.nested_sheet.specs.NestedRuns.{taskAt, pathAt, countAt, listStart, ListAt, withRun, listOf, ownList, runRight, listRight, listUnmasked}
 use Rattle.nested_replay.specs.declared.checks.Checked.{Checked}

@@ -25,7 +25,7 @@ use Rattle.runs.proofs.PartTurns.{before-last}
 use Rattle.runs.proofs.Segments.{done-le}
 use Rattle.nested_sheet.specs.NestedSheet.{howMany, RunInRules, ListInRules, ListRight}
 use Rattle.nested_sheet.specs.NestedRuns.{taskAt, pathAt, countAt, listStart, ListAt, runsOf, listOf, ownList}
-use Rattle.nested_replay.specs.Passes.{RunReads, RunReplays, restReferences, referencesFrom, mostReferences}
+use Rattle.nested_replay.specs.Passes.{RunReplays, restReferences, referencesFrom, mostReferences}
 use Rattle.nested_replay.proofs.Rests.{rests-all}
 
 -- ---- own references, and those of the runs of the list

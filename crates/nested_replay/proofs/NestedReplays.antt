@@ -32,7 +32,7 @@ use Rattle.sheet.specs.Sheet.{longestPath}
 use Rattle.sheet.proofs.CompletePaths.{complete-exact}
 use Rattle.runs.specs.Parts.{referencesAt}
 use Rattle.runs.proofs.Segments.{done-le}
-use Rattle.replay.proofs.Replays.{below}
+use Rattle.sheet_checks.proofs.OwnPath.{path-two-bytes}
 use Rattle.nested_sheet.specs.NestedSheet.{NestedSheetRun, howMany, withHead, listNumbers, Nested13, Nested16, ListFits, NestedFits, nestedSheet, deepest}
 use Rattle.nested_sheet.specs.FrontToBack.{Nested12, Nested20}
 use Rattle.nested_sheet.specs.Reading.{sheetFault}
@@ -142,7 +142,7 @@ module _ (s : List ℕ) (h : accepted (readingOf s) ≡ true) where
         few-references (task (tasksOf s) p) (task-bounds s p h (rw (tasks-long s) at l)) (getD path i 0),
       ),
       all-join (λ (x : ℕ). x < 65536) (withHead by own (howMany inner) (listNumbers inner)) (listNumbers rest)
-          (head-below by own (howMany inner) (listNumbers inner) (x .there) short (below s h by own (x .there) (complete-exact (task (tasksOf s) by) own .1 (x .complete))) count
+          (head-below by own (howMany inner) (listNumbers inner) (x .there) short (path-two-bytes s h by own (x .there) (complete-exact (task (tasksOf s) by) own .1 (x .complete))) count
           (list-below deep (p ∷ around) by own inner (x .there) short ei fi))
           (list-below (suc deep) around p path rest l k er fr),
     ),
@@ -151,5 +151,5 @@ module _ (s : List ℕ) (h : accepted (readingOf s) ≡ true) where
   pub nested-two-bytes : (run : NestedRun (tasksOf s)) → NestedFits (tasksOf s) run → All (λ (x : ℕ). x < 65536) (nestedSheet (tasksOf s) run)
   nested-two-bytes run f =
       head-below (run .p) (run .path) (howMany (run .runs)) (listNumbers (run .runs)) (run .there) (f .short)
-      (below s h (run .p) (run .path) (run .there) (complete-exact (task (tasksOf s) (run .p)) (run .path) .1 (run .complete))) (f .few)
+      (path-two-bytes s h (run .p) (run .path) (run .there) (complete-exact (task (tasksOf s) (run .p)) (run .path) .1 (run .complete))) (f .few)
       (list-below deepest [] (run .p) (run .path) (run .runs) (run .there) (f .short) (run .within) (f .each))

@@ -11,7 +11,6 @@ use Rattle.model.specs.Nested.{RunList, noRun, aRun, Coming, allOf, comingAt, w
 use Rattle.model.proofs.Events.{Event, Ref, Preempt, refs}
 use Rattle.model.proofs.Incoming.{comings, eventsOf}
 use Rattle.runs.specs.Parts.{between, lastPoint}
-use Rattle.runs.specs.declared.part.PathPoint.{PathPoint}
 use Rattle.runs.proofs.Segments.{Rises, InPath, segments, segments-all}
 use Rattle.nested_sheet.specs.NestedSheet.{ListInRules, ListRight}
 use Rattle.nested_replay.specs.Passes.{restReferences}

@@ -18,21 +18,18 @@ use Rattle.body.specs.Decode.{decode, taskOf}
 use Rattle.project.specs.File.{File, cacheBlocks, taskCount, bodyOf}
 use Rattle.project.specs.Tasks.{tasksOf, fileShape}
 use Rattle.reader.proofs.TaskBodies.{TaskBody, task-body}
-use Rattle.sheet.specs.Sheet.{Sheet, PathInBounds}
-use Rattle.sheet.proofs.CompletePaths.{complete-exact}
+use Rattle.sheet.specs.Sheet.{Sheet}
+use Rattle.sheet.proofs.CompletePaths.{complete-exact, complete-blocks}
 use Rattle.runs.specs.Running.{rowCount, PathIn}
-use Rattle.runs.specs.Parts.{referencesAt, partOf, lastPoint, PartIn}
+use Rattle.runs.specs.Parts.{referencesAt, partOf, firstPoint, lastPoint, PartIn}
 use Rattle.runs.specs.declared.part.PathPoint.{PathPoint}
 use Rattle.runs.proofs.PathCounts.{own-misses, own-bound, own-append, part-few}
 use Rattle.runs.proofs.PartTurns.{before-last}
 use Rattle.runs.proofs.RunLaws.{walked}
 use Rattle.runs.proofs.Segments.{done-le}
-use Rattle.replay.proofs.OwnPath.{complete-blocks}
-use Rattle.replay.proofs.CountLaws.{firstPoint}
-use Rattle.nested_sheet.specs.NestedSheet.{RunInRules}
 use Rattle.nested_sheet.specs.NestedRuns.{taskAt, pathAt, ListAt, listAt, withRun, listOf, ownList, nestedRunOf}
 use Rattle.nested_replay.specs.NestedReplay.{totalIn}
-use Rattle.nested_replay.specs.Passes.{RunReads, RunReplays, ListReplays, restReferences, referencesFrom, HasStarts}
+use Rattle.nested_replay.specs.Passes.{RunReplays, ListReplays, restReferences, referencesFrom, HasStarts}
 use Rattle.nested_replay.proofs.Rests.{rests-all}
 use Rattle.nested_replay.proofs.SheetLists.{list-next, list-grows}
 use Rattle.nested_replay.proofs.RunParts.{pathPart, part-path, its-list, run-stands, run-there, run-kept, run-task}

@@ -19,8 +19,8 @@ use cache::numbers::count;
 use project::answers::Check;
 use project::answers::refused;
 use reader::task_body;
-use replay::checks::right_done;
 use sheet::complete::steps_to_end;
+use sheet_checks::right_done;
 
 // What the pass tells of a run or a list: some path isn't complete or some number of references done is wrong; or it is right, and then the place
 // after it in the sheet and whether all its points lie in unmasked blocks.

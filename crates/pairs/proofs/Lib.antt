@@ -1,6 +1,3 @@
-pub mod ReplacedSets
-pub mod UsefulSets
+pub mod Bounds
 pub mod Meeting
-pub mod OneRow
-pub mod LaneSets
-pub mod LaneLaws
+pub mod UsefulSets

@@ -3,20 +3,22 @@
 use mathlib.Core.Path.{_≡_, refl, sym, ap, _∙_}
 use mathlib.Core.Bool.{Bool, true, false}
 use mathlib.Core.List.{List, [], _∷_}
-use Prim.Native.Nat.{ℕ, zero, suc, _+_, _-_, _*_, _/_, _%_, _^_, _≤_, _<_, min, max}
-use native.Mathlib.Nat.{le-trans, pow-suc}
+use Prim.Native.Nat.{ℕ, _+_, _-_, _*_, _^_, _≤_, _<_, max}
+use native.Mathlib.Nat.{le-trans}
 use native.Mathlib.Numerals.{add-one}
 use native.Mathlib.Omega.{arith}
 use lib.Dec.{eqb}
-use lib.ListN.{length, getD, set, take, drop, length-set, drop-of-length-le}
-use lib.Seq.{drop-cons, getD-set-same, getD-set-other}
-use lib.Bits.{bitAnd, and-step, and-zero-l}
-use lib.Count.{ones, ones-step, ones-le}
+use lib.ListN.{length, getD, set, take, drop, length-set, length-drop, drop-of-length-le}
+use lib.Seq.{drop-cons, getD-set-same, getD-set-other, length-take-le}
+use lib.Count.{ones, ones-le}
 use borrow.Author.Tests.{eqb-true, eqb-false}
+use Rattle.cache.proofs.Bits.{and-ones}
 use Rattle.model.specs.Lists.{best}
 use Rattle.rows.specs.Rows.{rowsOf}
-use Rattle.gather.specs.Memory.{heldRows}
-use Rattle.pairs.specs.Pairs.{mostCommon, setsMost, endsOf, Met}
+use Rattle.rows.proofs.Parts.{row-within}
+use Rattle.gather.proofs.Handing.{held-at}
+use Rattle.row_sets.specs.Sets.{Joined}
+use Rattle.pairs.specs.Pairs.{mostCommon, setsMost, endsOf, oneOf, EndRows, Met}
 
 -- ---- the most that one of some sets counts
 
@@ -44,18 +46,6 @@ module _ (us vs : List ℕ) (number : ℕ) where
       let n : setsMost (drop k us) vs ≡ 0 = ap (λ (x : List ℕ). setsMost x vs) (drop-of-length-le us {i = k} h) in
       omega (arith, n, i)
 
--- a set has no more in common with another than it has
-
-pub and-ones : (k a b : ℕ) → a < 2 ^ k → ones (bitAnd a b) ≤ ones a
-and-ones zero a b h = let z : a ≡ 0 = omega arith in rw (z, and-zero-l b) (omega arith)
-and-ones (suc k) a b h =
-    let x = bitAnd (a / 2) (b / 2) in
-    let e = and-step a b in
-    let half : bitAnd a b / 2 ≡ x = rw e (omega arith) in
-    let odd : bitAnd a b % 2 ≡ min (a % 2) (b % 2) = rw e (omega arith) in
-    let below = and-ones k (a / 2) (b / 2) (omega (arith, pow-suc 2 k)) in
-    omega (arith, ones-step (bitAnd a b), ones-step a, rw (← half) at below, odd)
-
 pub most-ones : (u : ℕ) (vs : List ℕ) → u < 2 ^ 32 → mostCommon u vs ≤ ones u
 most-ones u [] h = omega arith
 most-ones u (v ∷ vs) h = omega (arith, and-ones 32 u v h, most-ones u vs h)
@@ -63,12 +53,25 @@ most-ones u (v ∷ vs) h = omega (arith, and-ones 32 u v h, most-ones u vs h)
 pub most-few : (u : ℕ) (vs : List ℕ) → u < 2 ^ 32 → mostCommon u vs ≤ 32
 most-few u vs h = le-trans (most-ones u vs h) (ones-le 32 u h)
 
--- the rows of block b, or the end rows of task b, were lent as a part from 32 w b to 32 w b + 32 w
-pub held-at : (w : ℕ) (rows counts : List ℕ) (b : ℕ)
-    → rowsOf w (getD counts b 0) (take (32 * w * b + 32 * w - 32 * w * b) (drop (32 * w * b) rows)) ≡ heldRows w rows counts b
-held-at w rows counts b =
-    let s : 32 * w * b + 32 * w - 32 * w * b ≡ 32 * w = omega arith in
-    ap (λ (n : ℕ). rowsOf w (getD counts b 0) (take n (drop (32 * w * b) rows))) s
+-- ---- the end rows of task j, and the one row for them, were lent as parts
+
+module _ (w : ℕ) (ends counts mixed : List ℕ) (tasks j : ℕ) (is : EndRows w ends counts mixed tasks) (l : j < tasks) where
+  abbrev from : ℕ
+  from = 8 * (32 * w) + w * j
+
+  lent-one : take (from + w - from) (drop from ends) ≡ oneOf w ends j
+  lent-one =
+      let s : from + w - from ≡ w = omega arith in
+      ap (λ (n : ℕ). take n (drop from ends)) s
+
+  pub lent-joined : Joined w (endsOf w ends counts j) (take (from + w - from) (drop from ends)) (getD mixed j 0)
+  lent-joined = rw lent-one (is .joined j l)
+
+  pub lent-ends : length (take (32 * w * j + 32 * w - 32 * w * j) (drop (32 * w * j) ends)) ≡ 32 * w
+  lent-ends =
+      let s : 32 * w * j + 32 * w - 32 * w * j ≡ 32 * w = omega arith in
+      let inside : 32 * w ≤ length (drop (32 * w * j) ends) = simp length-drop (omega (arith, row-within (32 * w) j 8 (omega (arith, is .inside)), is .long)) in
+      rw s (length-take-le (32 * w) (drop (32 * w * j) ends) inside)
 
 -- ---- the numbers
 

@@ -18,8 +18,9 @@ use Rattle.model.specs.Lists.{best}
 use Rattle.model.proofs.Membership.{or-left, or-right}
 use Rattle.rows.specs.Overlay.{overlay}
 use Rattle.rows.proofs.Parts.{lent-first}
-use Rattle.pairs.specs.Pairs.{usefulSet, keptSet, usefulSets, UsefulSets, replacedSets, someReplaces, mostCommon, setsMost, largestOf, NoMoreThanAll, pointMost, usefulMost, someBelow, mayRaiseSome, endsOf, Met}
-use Rattle.pairs.proofs.ReplacedSets.{all-bounds, stays-replaced}
+use Rattle.row_sets.specs.Sets.{usefulSet, keptSet, usefulSets, replacedSets, someReplaces}
+use Rattle.pairs.specs.Pairs.{UsefulSets, mostCommon, setsMost, largestOf, NoMoreThanAll, pointMost, usefulMost, someBelow, mayRaiseSome, endsOf, Met}
+use Rattle.pairs.proofs.Bounds.{all-bounds, stays-replaced}
 use Rattle.pairs.proofs.Meeting.{most-ones}
 
 -- ---- the sets are made of some live rows

@@ -1,34 +1,19 @@
--- Document 01, "Paths and cache", and document 02, Points 5 and 6: the sets of cache blocks useful in and replaced by tasks, and the most that they
--- have in common at a point. Definitions only.
+-- Document 01, "Paths and cache", and document 02, Points 5 and 6: the most that useful and replaced sets have in common at a point, and the numbers of
+-- a task that are met by the end rows of all tasks. Definitions only.
 use mathlib.Core.Path.{_≡_}
-use mathlib.Core.Bool.{Bool, true, false, not, _&&_, _||_}
-use mathlib.Core.List.{List, [], _∷_, map}
+use mathlib.Core.Bool.{Bool, false, _||_}
+use mathlib.Core.List.{List}
 use Prim.Native.Nat.{ℕ, zero, suc, _+_, _*_, _≤_, _<_, max}
-use lib.Dec.{eqb, ltb}
+use lib.Dec.{ltb}
 use lib.ListN.{length, getD, take, drop}
 use lib.Bits.{bitAnd}
 use lib.Count.{ones}
-use Rattle.cache.specs.Cache.{held}
-use Rattle.cache.specs.Sets.{useful, used, replaces, bits}
+use Rattle.cache.specs.Sets.{bits}
 use Rattle.model.specs.Lists.{best}
 use Rattle.rows.specs.Overlay.{overlay}
 use Rattle.rows.specs.Rows.{Width}
 use Rattle.gather.specs.Memory.{heldRows}
-
--- the useful set of a reaching and a live row
-abbrev pub usefulSet : List ℕ → List ℕ → ℕ
-usefulSet reaching live = bits (length reaching) (useful reaching live)
-
--- the useful sets of a reaching row at a point with each of some live rows of the block: `rest` holds the first references of what is left of the block
-abbrev pub usefulSets : List ℕ → List ℕ → List (List ℕ) → List ℕ
-usefulSets r rest ls = map (λ (l : List ℕ). usefulSet r (overlay l rest)) ls
-
--- the cache blocks of a reaching row that can be useful at the point: those where the rest holds nothing or the same memory block
-abbrev pub kept : List ℕ → List ℕ → ℕ → Bool
-kept r rest c = used r c && not (replaces rest r c)
-
-abbrev pub keptSet : List ℕ → List ℕ → ℕ
-keptSet r rest = bits (length r) (kept r rest)
+use Rattle.row_sets.specs.Sets.{usefulSet, usefulSets, keptSet, replacedSets, someReplaces, Joined}
 
 -- these are the useful sets of the row at a point with some live rows, and `held` are the cache blocks that can be useful there
 pub record UsefulSets (r : List ℕ) (held : ℕ) (us : List ℕ) : Type 0 where
@@ -36,25 +21,6 @@ pub record UsefulSets (r : List ℕ) (held : ℕ) (us : List ℕ) : Type 0 where
   pub lives : List (List ℕ)
   pub kept-is : held ≡ keptSet r rest
   pub sets : us ≡ usefulSets r rest lives
-
--- the cache blocks of a reaching row r where the end row f "holds something there other than" what r holds, and those of each of some end rows
-abbrev pub replacedSet : List ℕ → List ℕ → ℕ
-replacedSet f r = bits (length r) (replaces f r)
-
-abbrev pub replacedSets : List ℕ → List (List ℕ) → List ℕ
-replacedSets r fs = map (λ (f : List ℕ). replacedSet f r) fs
-
--- whether one of the rows passes the test
-abbrev pub anyRow : (List ℕ → Bool) → List (List ℕ) → Bool
-anyRow test [] = false
-anyRow test (f ∷ fs) = test f || anyRow test fs
-
--- whether one of the end rows replaces what r holds at the cache block c, and whether one of them uses c
-abbrev pub someReplaces : List (List ℕ) → List ℕ → ℕ → Bool
-someReplaces fs r c = anyRow (λ (f : List ℕ). replaces f r c) fs
-
-abbrev pub someUses : List (List ℕ) → ℕ → Bool
-someUses fs c = anyRow (λ (f : List ℕ). used f c) fs
 
 -- the most cache blocks that a set has in common with one of some sets
 abbrev pub mostCommon : ℕ → List ℕ → ℕ
@@ -84,22 +50,6 @@ usefulMost r us fs = setsMost us (replacedSets r fs)
 -- the end rows of task j in one list for all tasks: they stand from 32 w j on, as many as its count
 abbrev pub endsOf : ℕ → List ℕ → List ℕ → ℕ → List (List ℕ)
 endsOf w ends counts j = heldRows w ends counts j
-
--- whether one of the end rows holds m at the cache block c
-abbrev pub someHolds : List (List ℕ) → ℕ → ℕ → Bool
-someHolds fs c m = anyRow (λ (f : List ℕ). eqb (held f c) m) fs
-
--- the one row for some end rows: at a cache block that one of them uses it holds a memory block that one of them holds there, and at any other nothing
-pub record OneOfThem (w : ℕ) (fs : List (List ℕ)) (one : List ℕ) : Type 0 where
-  pub wide : length one ≡ w
-  pub from : (c : ℕ) → used one c ≡ true → someHolds fs c (held one c) ≡ true
-  pub all : (c : ℕ) → c < w → someUses fs c ≡ true → used one c ≡ true
-
--- such a row, and `mixed`, the cache blocks where one of the end rows holds another memory block than it: where they hold more than one. These two say
--- what some end row replaces in whatever row (OneRow, `joined-replaces`)
-pub record Joined (w : ℕ) (fs : List (List ℕ)) (one : List ℕ) (mixed : ℕ) : Type 0 where
-  pub row : OneOfThem w fs one
-  pub others : mixed ≡ bits w (someReplaces fs one)
 
 -- the one row for the end rows of task j, in the same list: these rows stand after the end rows of all tasks
 abbrev pub oneOf : ℕ → List ℕ → ℕ → List ℕ

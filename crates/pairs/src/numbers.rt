@@ -7,13 +7,14 @@ ghost use lib.Count.{ones};
 ghost use lib.ListN.{length};
 ghost use Rattle.cache.specs.Sets.{bits};
 ghost use Rattle.rows.specs.Rows.{Width, rowsOf};
-ghost use Rattle.pairs.specs.Lanes.{laneRows};
-ghost use Rattle.pairs.specs.Pairs.{someReplaces, mostCommon, setsMost, largestOf, NoMoreThanAll, UsefulSets, usefulMost, pointMost, Joined, EndRows, mayRaise, mayRaiseSome, Met};
-use crate::replaced::replaced_by_some;
-use crate::replaced::replaced_sets;
-use crate::useful::kept;
-use crate::useful::useful_sets;
+ghost use Rattle.row_sets.specs.Lanes.{laneRows};
+ghost use Rattle.row_sets.specs.Sets.{someReplaces, Joined};
+ghost use Rattle.pairs.specs.Pairs.{mostCommon, setsMost, largestOf, NoMoreThanAll, UsefulSets, usefulMost, pointMost, EndRows, mayRaise, mayRaiseSome, Met};
 use cache::sets::common;
+use row_sets::replaced::replaced_by_some;
+use row_sets::replaced::replaced_sets;
+use row_sets::useful::kept;
+use row_sets::useful::useful_sets;
 
 // The most cache blocks that the set has in common with one of the sets.
 pub fn most_common(set: u32, sets: &[u32]) -> u32

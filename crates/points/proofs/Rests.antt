@@ -7,8 +7,8 @@ use native.Mathlib.Nat.{mul-comm}
 use native.Mathlib.Numerals.{add-one}
 use native.Mathlib.Omega.{arith}
 use lib.Dec.{eqb}
-use lib.ListN.{length, getD, take, drop, replicate, length-drop, length-replicate}
-use lib.Seq.{drop-cons, drop-length, length-take-le}
+use lib.ListN.{length, getD, take, drop, replicate, length-replicate}
+use lib.Seq.{drop-cons, drop-length}
 use borrow.Author.Tests.{eqb-true, eqb-false}
 use Rattle.cache.specs.References.{nothing, Real, All}
 use Rattle.cache.specs.Cache.{Cache, emptyRow, withReference}
@@ -20,24 +20,9 @@ use Rattle.rows.specs.Rows.{Width, rowsOf}
 use Rattle.rows.specs.Append.{put}
 use Rattle.rows.specs.Overlay.{overlay}
 use Rattle.rows.proofs.Overlays.{overlay-firsts}
-use Rattle.rows.proofs.Parts.{row-within, replaced-here, replaced-after, rows-snoc, rows-put}
+use Rattle.rows.proofs.Parts.{row-within, replaced-here, replaced-after, rows-put, rows-more}
 use Rattle.gather.specs.Graph.{rowAt}
 use Rattle.points.specs.Points.{restOf, Rests, leftRows}
-
--- ---- the row numbered k of at most m rows, lent as a part from w k to w k + w
-
--- it has its width
-pub lent-long : (w k m : ℕ) (l : List ℕ) → k < m → length l ≡ m * w → length (take (w * k + w - w * k) (drop (w * k) l)) ≡ w
-lent-long w k m l h e =
-    let s : w * k + w - w * k ≡ w = omega arith in
-    let inside : w ≤ length (drop (w * k) l) = simp length-drop (omega (arith, row-within w k m h, mul-comm w m)) in
-    rw s (length-take-le w (drop (w * k) l) inside)
-
--- it comes after the first k rows
-pub rows-more : (w k : ℕ) (l : List ℕ) → rowsOf w (k + 1) l ≡ rowsOf w k l ++ (take (w * k + w - w * k) (drop (w * k) l) ∷ [])
-rows-more w k l =
-    let s : w ≡ w * k + w - w * k = omega arith in
-    ap (λ (n : ℕ). rowsOf w n l) (add-one k) ∙ rows-snoc w k l ∙ ap (λ (n : ℕ). rowsOf w k l ++ (take n (drop (w * k) l) ∷ [])) s
 
 -- ---- the pass that makes the rest rows
 

@@ -20,13 +20,13 @@ use Rattle.model.proofs.Width.{count-width, lost-width}
 use Rattle.body.proofs.WalksParts.{part-is}
 use Rattle.project.specs.File.{cacheBlocks, taskCount}
 use Rattle.project.specs.Tasks.{tasksOf, fileShape}
-use Rattle.reader.proofs.TaskBodies.{TaskBody, task-body}
-use Rattle.sheet.specs.Sheet.{SheetRun, preemptionNumbers, longestPath, PreemptionInRules, InRules}
+use Rattle.reader.proofs.TaskBodies.{task-body}
+use Rattle.sheet.specs.Sheet.{SheetRun, preemptionNumbers, longestPath, PreemptionInRules}
 use Rattle.sheet.specs.Parsed.{completePath, eachPasses, completeBy}
-use Rattle.sheet.proofs.Places.{SheetPlaces, PreemptionPlaces, preemption-places, none-left}
-use Rattle.sheet.proofs.CompletePaths.{all-done}
+use Rattle.sheet.proofs.Places.{PreemptionPlaces, preemption-places, none-left}
+use Rattle.sheet.proofs.CompletePaths.{complete-blocks, all-done}
 use Rattle.runs.specs.Running.{Both, bothFirst, CountsFit, ownBoth, preemptedBoth}
-use Rattle.runs.specs.Parts.{referencesAt, partOf, lastPoint, PartIn}
+use Rattle.runs.specs.Parts.{referencesAt, partOf, firstPoint, lastPoint, PartIn}
 use Rattle.runs.specs.declared.part.PathPoint.{PathPoint}
 use Rattle.runs.proofs.PathCounts.{references-few}
 use Rattle.runs.proofs.PartLaws.{between-join, between-all}
@@ -34,20 +34,18 @@ use Rattle.runs.proofs.PartTurns.{before-last}
 use Rattle.runs.proofs.Segments.{Rises, rises-all, done-le, segments, InPath, segments-all}
 use Rattle.runs.proofs.BothEvents.{bothEvents, events-refs, end-undisturbed, end-disturbed, end-lost}
 use Rattle.runs.proofs.BothLaws.{counts-less, counts-after}
+use Rattle.sheet_checks.specs.SheetChecks.{runIn, Passed13}
+use Rattle.sheet_checks.proofs.SheetLaws.{SheetFacts}
+use Rattle.sheet_checks.proofs.OwnPath.{ownTask, own-facts, own-bounds}
 use Rattle.replay.specs.declared.Replaying.{Replaying}
 use Rattle.replay.specs.declared.Replaying.the-variants.{Counted}
-use Rattle.replay.specs.Replay.{runIn, countedIn, Passed13}
-use Rattle.replay.proofs.SheetLaws.{SheetFacts}
-use Rattle.replay.proofs.OwnPath.{complete-blocks, ownTask, own-facts, own-bounds}
+use Rattle.replay.specs.Replay.{countedIn}
 
 -- ---- points
 
--- that of a preemption, and the first of a path
+-- that of a preemption
 abbrev pub pointOf : Preemption → PathPoint
 pointOf x = record { position = x .position; done = x .done }
-
-abbrev pub firstPoint : PathPoint
-firstPoint = record { position = 0; done = 0 }
 
 -- ---- what is left of the run where the point `from` is reached and `at` is the next preemption
 

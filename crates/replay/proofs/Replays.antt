@@ -1,19 +1,16 @@
 -- What Replay answers is the verdict of the definitions; every disturbed run of an accepted file that a sheet can hold has its answer; demand 3 of the answers.
 -- The idea: the checks of the file are the reader's; checks 12, 13 and 16 are the tests of the sheet, whose run is a disturbed run.
-use mathlib.Core.Path.{_≡_, refl, sym, ap, subst, _∙_}
-use mathlib.Core.Logic.{_↔_}
-use mathlib.Core.Bool.{Bool, true, false, not, true≢false, false≢true}
+use mathlib.Core.Path.{_≡_, refl, sym, subst, _∙_}
+use mathlib.Core.Bool.{true}
 use mathlib.Core.List.{List, [], _∷_}
 use Prim.Native.Nat.{ℕ, _+_, _≤_, _<_}
 use native.Mathlib.Omega.{arith}
 use lib.ListN.{length, getD}
-use borrow.Author.Tests.{not-true}
 use Rattle.cache.specs.References.{All}
 use Rattle.model.specs.Lists.{Each}
 use Rattle.model.specs.Tasks.{task}
 use Rattle.model.specs.Runs.{Preemption, Preempts, DisturbedRun, U, D, lostHits}
 use Rattle.model.specs.Demand.{pairSum}
-use Rattle.model.proofs.Disjoint.{all-map}
 use Rattle.model.proofs.Membership.{all-join}
 use Rattle.project.specs.declared.answers.Check.{Check}
 use Rattle.project.specs.declared.answers.Check.the-variants.{Passed}
@@ -29,67 +26,37 @@ use Rattle.project.proofs.Verdicts.{file-agreeing}
 use Rattle.project.proofs.Accepted.{then-passed, passing, accepted-passed}
 use Rattle.project.proofs.FileRules.{file-demand-3}
 use Rattle.reader.proofs.TaskBodies.{reading, passing-accepted, tasks-long, task-bounds}
-use Rattle.sheet.specs.Sheet.{preemptionNumbers, sheetNumbers, longestPath, Fault12, Fault13, Fault16, Fits, sheetRun}
-use Rattle.sheet.specs.Parsed.{Parsed, broken, parsed, parse, keptSheet, runOf, completePath}
-use Rattle.sheet.proofs.Parsing.{parsed-rules, broken-fault, fault-broken}
+use Rattle.sheet.specs.Sheet.{preemptionNumbers, sheetNumbers, longestPath, Fits, sheetRun}
+use Rattle.sheet.specs.Parsed.{parsed, parse}
+use Rattle.sheet.proofs.Parsing.{parsed-rules}
 use Rattle.sheet.proofs.CompletePaths.{complete-exact}
-use Rattle.sheet.proofs.SheetRuns.{acceptedRun, run-sheet, incomplete-exact, masked-exact}
+use Rattle.sheet.proofs.SheetRuns.{acceptedRun, run-sheet}
 use Rattle.runs.specs.Parts.{referencesAt}
+use Rattle.sheet_checks.specs.SheetChecks.{runIn, sheetChecks, sheetCheck}
+use Rattle.sheet_checks.proofs.OwnPath.{path-two-bytes}
+use Rattle.sheet_checks.proofs.CheckLaws.{SheetPassed, passed-sheet, is-parsed, sheet-agreeing}
 use Rattle.body.proofs.Decoded.{few-references}
 use Rattle.runs.proofs.Segments.{done-le}
 use Rattle.replay.specs.declared.Replaying.{Replaying}
 use Rattle.replay.specs.declared.Replaying.the-variants.{Counted, Refused}
-use Rattle.replay.specs.Replay.{runIn, test12, test13, test16, sheetChecks, sheetCheck, replayChecks, replayCheck, undisturbedIn, disturbedIn, lostIn, countedIn, pickReplaying, replayingOf}
+use Rattle.replay.specs.Replay.{replayChecks, replayCheck, undisturbedIn, disturbedIn, lostIn, countedIn, pickReplaying, replayingOf}
 use Rattle.replay.specs.ReplayVerdict.{Replayed, ReplayVerdict}
-use Rattle.replay.proofs.CallLaws.{replay-parts, answer-by, SheetPassed, passed-sheet}
-use Rattle.replay.proofs.OwnPath.{complete-blocks}
+use Rattle.replay.proofs.CallLaws.{replay-parts, answer-by}
 
 -- ---- the verdict
 
-broken-by : (d : Parsed) → keptSheet d ≡ false → d ≡ broken
-broken-by broken e = refl
-broken-by (parsed r) e = absurd (true≢false e)
-
-parsed-by : (d : Parsed) → keptSheet d ≡ true → d ≡ parsed (runOf d)
-parsed-by broken e = absurd (false≢true e)
-parsed-by (parsed r) e = refl
-
 module _ (s sheet : List ℕ) where
-  exact12 : (test12 s sheet ≡ true) ↔ Fault12 (taskCount s) sheet
-  exact12 = (
-    λ e. broken-fault (taskCount s) sheet (broken-by _ (not-true (keptSheet (parse (taskCount s) sheet)) e)),
-    λ f. ap (λ (d : Parsed). not (keptSheet d)) (fault-broken (taskCount s) sheet f),
-  )
-
-  -- a sheet without a fault of check 12 tells its run
-  module _ (k : keptSheet (parse (taskCount s) sheet) ≡ true) where
-    is-parsed : parse (length (tasksOf s)) sheet ≡ parsed (runIn s sheet)
-    is-parsed = rw (tasks-long s) (parsed-by _ k)
-
-    exact13 : (test13 s sheet ≡ true) ↔ Fault13 (tasksOf s) sheet
-    exact13 = incomplete-exact (tasksOf s) sheet (runIn s sheet) is-parsed
-
-    exact16 : (test16 s sheet ≡ true) ↔ Fault16 (tasksOf s) sheet
-    exact16 = masked-exact (tasksOf s) sheet (runIn s sheet) is-parsed
-
   its-run : SheetPassed s sheet → Replayed s sheet (undisturbedIn s (runIn s sheet)) (disturbedIn s (runIn s sheet)) (lostIn s (runIn s sheet))
   its-run p = record {
-    run = acceptedRun (tasksOf s) sheet (runIn s sheet) (is-parsed (p .kept)) (p .complete) (p .done) (p .unmasked);
-    sheet-of = parsed-rules (length (tasksOf s)) sheet (runIn s sheet) (is-parsed (p .kept)) .numbers;
+    run = acceptedRun (tasksOf s) sheet (runIn s sheet) (is-parsed s sheet (p .kept)) (p .complete) (p .done) (p .unmasked);
+    sheet-of = parsed-rules (length (tasksOf s)) sheet (runIn s sheet) (is-parsed s sheet (p .kept)) .numbers;
     undisturbed = refl;
     disturbed = refl;
     lost = refl;
   }
 
-  kept-by : (Fault12 (taskCount s) sheet → ⊥) → keptSheet (parse (taskCount s) sheet) ≡ true
-  kept-by none = go (keptSheet (parse (taskCount s) sheet)) refl
-    where
-      go : (b : Bool) → keptSheet (parse (taskCount s) sheet) ≡ b → keptSheet (parse (taskCount s) sheet) ≡ true
-      go true e = e
-      go false e = absurd (none (broken-fault (taskCount s) sheet (broken-by _ e)))
-
   replay-agreeing : All (λ (x : ℕ). x < 256) s → Agreeing (replayChecks s sheet)
-  replay-agreeing h = agreeing-append (fileChecks s) (sheetChecks s sheet) (file-agreeing s h) (λ all. (exact12, λ p12. (exact13 (kept-by p12), λ p13. (exact16 (kept-by p12), λ p16. tt))))
+  replay-agreeing h = agreeing-append (fileChecks s) (sheetChecks s sheet) (file-agreeing s h) (λ all. sheet-agreeing s sheet)
 
   -- what Replay answers is the verdict, for every list of bytes and every sheet
   pub replay-verdict : All (λ (x : ℕ). x < 256) s → ReplayVerdict s sheet (replayingOf s sheet)
@@ -141,11 +108,6 @@ run-replayed s h run f =
     answer-by s sheet Passed (replay-parts s sheet ∙ rw (accepted-passed s (cacheBlocks s) (taskCount s) (reading s h) .0, q, o .complete, o .right, o .unmasked)) ∙ rw q
 
 module _ (s : List ℕ) (h : accepted (readingOf s) ≡ true) where
-  -- the blocks of a complete path
-  pub below : (j : ℕ) (path : List ℕ) → j < length (tasksOf s) → completePath (task (tasksOf s) j) path ≡ true → All (λ (x : ℕ). x < 65536) path
-  below j path l c =
-      all-map (λ b k. omega (arith, task-bounds s j h (rw (tasks-long s) at l) .few)) path (complete-blocks (task (tasksOf s) j) path c)
-
   each-below : (p : ℕ) (path : List ℕ) (xs : List Preemption) → p < length (tasksOf s) → length path ≤ longestPath → Each (Preempts (tasksOf s) p path) xs
       → Each (λ (x : Preemption). length (x .path) ≤ longestPath) xs → All (λ (x : ℕ). x < 65536) (preemptionNumbers xs)
   each-below p path [] l k e f = tt
@@ -162,7 +124,7 @@ module _ (s : List ℕ) (h : accepted (readingOf s) ≡ true) where
         (
           omega (arith, f .0),
           all-join (λ (x : ℕ). x < 65536) (x .path) (preemptionNumbers xs)
-              (below (x .by) (x .path) (e .0 .there) (complete-exact (task (tasksOf s) (x .by)) (x .path) .1 (e .0 .complete))) (each-below p path xs l k (e .1) (f .1)),
+              (path-two-bytes s h (x .by) (x .path) (e .0 .there) (complete-exact (task (tasksOf s) (x .by)) (x .path) .1 (e .0 .complete))) (each-below p path xs l k (e .1) (f .1)),
         ),
       ),
     ),
@@ -177,7 +139,7 @@ module _ (s : List ℕ) (h : accepted (readingOf s) ≡ true) where
     (
       omega (arith, f .short),
       all-join (λ (x : ℕ). x < 65536) (run .path) (length (run .preemptions) ∷ preemptionNumbers (run .preemptions))
-          (below (run .p) (run .path) (run .there) (complete-exact (task (tasksOf s) (run .p)) (run .path) .1 (run .complete)))
+          (path-two-bytes s h (run .p) (run .path) (run .there) (complete-exact (task (tasksOf s) (run .p)) (run .path) .1 (run .complete)))
           (omega (arith, f .few), each-below (run .p) (run .path) (run .preemptions) (run .there) (f .short) (run .each) (f .each)),
     ),
   )

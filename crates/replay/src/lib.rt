@@ -1,18 +1,17 @@
 // Replay: the misses of a run, without and with its preemptions, and the hits that the preemptions cost.
-pub mod checks;
 mod counts;
 
 ghost use mathlib.Core.Path.{_≡_};
 ghost use Rattle.project.specs.Reading.{headCheck};
 ghost use Rattle.replay.specs.Replay.{replayingOf};
 use cache::numbers::byte_count;
-use checks::check_sheet;
 use counts::run_counts;
 use project::answers::Check;
 use project::answers::Reading;
 use project::head::head;
 use reader::file_shape;
 use reader::read_bodies;
+use sheet_checks::check_sheet;
 
 // What Replay answers: the misses of the run's own references without and with the preemptions, and the lost hits, which are own references
 // that hit without them and miss with them; or the check that fails first and the task it names.

@@ -16,7 +16,8 @@ use Rattle.project.specs.Filling.{pickFilling}
 use Rattle.project.specs.Reading.{fileCheck}
 use Rattle.project.specs.Tasks.{tasksOf, fileCacheIn}
 use Rattle.project.proofs.Accepted.{Passing, passing, then-passed}
-use Rattle.table.specs.Table.{firstFull, pickTable, tableOf, tableCheck, tableAnswer, tableAfter}
+use Rattle.file_pairs.specs.FilePairs.{firstFull, tableOf}
+use Rattle.table.specs.Table.{pickTable, tableCheck, tableAnswer, tableAfter}
 use Rattle.table.proofs.Answers.{later-parts}
 use Rattle.text.specs.Text.{tableText, refusalLine}
 use Rattle.report.specs.Printed.{checksOf, printedAfter, printed}

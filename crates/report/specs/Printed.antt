@@ -7,7 +7,8 @@ use Rattle.project.specs.declared.answers.Check.the-variants.{Refused as Failed
 use Rattle.project.specs.File.{File, cacheBlocks, taskCount}
 use Rattle.project.specs.Checklist.{verdictOf}
 use Rattle.project.specs.Reading.{fileChecks}
-use Rattle.table.specs.Table.{fullChecks, tableOf}
+use Rattle.file_pairs.specs.FilePairs.{tableOf}
+use Rattle.table.specs.Table.{fullChecks}
 use Rattle.text.specs.Text.{tableText, refusalLine}
 
 -- "Table checks 1 to 11", of which 1 is about its lists and not about the file; without 10 (document 02, Point 5)

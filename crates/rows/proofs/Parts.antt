@@ -4,7 +4,7 @@ use mathlib.Core.Path.{_≡_, refl, sym, ap, ap₂, _∙_}
 use mathlib.Core.Bool.{Bool, false, _||_}
 use mathlib.Core.List.{List, [], _∷_, _++_, append-assoc}
 use Prim.Native.Nat.{ℕ, zero, suc, _+_, _-_, _*_, _≤_, _<_}
-use native.Mathlib.Nat.{sub-zero, min-le-left, mul-add, mul-one, mul-zero, mul-le-mul-left}
+use native.Mathlib.Nat.{sub-zero, min-le-left, mul-add, mul-comm, mul-one, mul-zero, mul-le-mul-left}
 use borrow.Rule.Slice.PartMut.{putMid, post-is}
 use native.Mathlib.Omega.{arith}
 use native.Mathlib.Numerals.{add-one}
@@ -162,6 +162,18 @@ lent-back base size l new = ap (λ (z : List ℕ). take base l ++ (new ++ z)) (p
 -- a row that was copied into the part that it was lent
 pub lent-row : (base : ℕ) (l row : List ℕ) {new : List ℕ} → new ≡ row → putMid base (base + length row - base) l new ≡ put l base row
 lent-row base l row {new} e = lent-back base (length row) l new ∙ ap (λ (x : List ℕ). take base l ++ (x ++ drop (base + length row) l)) e
+
+-- the row numbered k of at most m rows, lent as a part from w k to w k + w: it has its width, and comes after the first k rows
+pub lent-long : (w k m : ℕ) (l : List ℕ) → k < m → length l ≡ m * w → length (take (w * k + w - w * k) (drop (w * k) l)) ≡ w
+lent-long w k m l h e =
+    let s : w * k + w - w * k ≡ w = omega arith in
+    let inside : w ≤ length (drop (w * k) l) = simp length-drop (omega (arith, row-within w k m h, mul-comm w m)) in
+    rw s (length-take-le w (drop (w * k) l) inside)
+
+pub rows-more : (w k : ℕ) (l : List ℕ) → rowsOf w (k + 1) l ≡ rowsOf w k l ++ (take (w * k + w - w * k) (drop (w * k) l) ∷ [])
+rows-more w k l =
+    let s : w ≡ w * k + w - w * k = omega arith in
+    ap (λ (n : ℕ). rowsOf w n l) (add-one k) ∙ rows-snoc w k l ∙ ap (λ (n : ℕ). rowsOf w k l ++ (take n (drop (w * k) l) ∷ [])) s
 
 -- a room whose first n numbers were lent, and came back as rows
 module _ (n : ℕ) (l rows : List ℕ) {new : List ℕ} (same : new ≡ rows) (long : length rows ≡ n) where

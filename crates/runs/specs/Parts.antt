@@ -26,6 +26,10 @@ referencesAt t path x = block t (getD path x 0) .references
 abbrev pub partOf : Task → Path → PathPoint → PathPoint → List ℕ
 partOf t path from to = between t path (from .position) (from .done) (to .position) (to .done)
 
+-- the first point of a path: no reference is done
+abbrev pub firstPoint : PathPoint
+firstPoint = record { position = 0; done = 0 }
+
 -- the last point of a path: all references of its last block are done
 abbrev pub lastPoint : Task → Path → PathPoint
 lastPoint t path = record { position = length path - 1; done = length (referencesAt t path (length path - 1)) }

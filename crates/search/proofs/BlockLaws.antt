@@ -10,8 +10,7 @@ use native.Mathlib.Nat.{sub-zero}
 use Rattle.cache.specs.References.{numbers}
 use Rattle.cache.specs.Cache.{Cache}
 use Rattle.cache.proofs.NumberLaws.{length-numbers}
-use Rattle.model.specs.Tasks.{Block, Task, block}
-use Rattle.body.specs.Layout.{InBounds}
+use Rattle.model.specs.Tasks.{Task, block}
 use Rattle.body.proofs.Decoded.{few-references}
 use Rattle.body.specs.Decode.{decode, taskOf}
 use Rattle.body.specs.Walk.{keptOf, blocksOf, startsOf}

@@ -19,7 +19,7 @@ use Rattle.cache.specs.Sets.{replaces, usefulReplaced}
 use Rattle.cache.proofs.Masks.{bits-none}
 use Rattle.cache.proofs.Rows.{length-emptyRow, length-withReferences}
 use Rattle.model.specs.Lists.{mem}
-use Rattle.model.specs.Tasks.{Block, Task, block, SomeUnmasked, Done, Allows, end, references, memoryBlocks}
+use Rattle.model.specs.Tasks.{Task, block, SomeUnmasked, Done, Allows, end, references, memoryBlocks}
 use Rattle.model.specs.States.{Reaches, Lives}
 use Rattle.model.specs.Numbers.{Rows, counted}
 use Rattle.model.specs.Computed.{sorted, reaching, living, pairNumber}
@@ -37,8 +37,8 @@ use Rattle.gather.proofs.Distinct.{mem-getD, number-of}
 use Rattle.graphs.proofs.Listed.{block-real}
 use Rattle.points.specs.Points.{restOf, leftRows, predecessorsOf}
 use Rattle.points.proofs.Rests.{overlay-rest}
-use Rattle.pairs.specs.Pairs.{replacedSet, usefulSet, replacedSets}
-use Rattle.pairs.proofs.ReplacedSets.{counts-as}
+use Rattle.row_sets.specs.Sets.{replacedSet, usefulSet, replacedSets}
+use Rattle.row_sets.proofs.ReplacedSets.{counts-as}
 use Rattle.search.specs.declared.Point.{Point}
 use Rattle.search.specs.declared.Found.{Found}
 use Rattle.search.specs.Search.{OfRow, firstPoint, pointAfter, OfBefore, fewestDone, OfTask, noneFound, Searched}

@@ -3,25 +3,25 @@
 use mathlib.Core.Path.{_≡_, refl, sym, ap, subst, _∙_}
 use mathlib.Core.Logic.{_⊎_, inl, inr}
 use mathlib.Core.Bool.{Bool, true, false, true≢false}
-use mathlib.Core.List.{List, [], _∷_}
+use mathlib.Core.List.{List, []}
 use Prim.Native.Nat.{ℕ, _+_, _-_, _*_, _^_, _≤_, _<_}
 use native.Mathlib.Omega.{arith}
 use lib.Dec.{ltb}
 use lib.ListN.{length, getD, take, drop}
 use lib.Bits.{bitAnd}
-use lib.Count.{ones}
+use lib.Count.{ones, ones-le}
 use borrow.Author.Tests.{ltb-true, ltb-false}
 use Rattle.cache.specs.declared.blocks.CacheShape.{CacheShape}
 use Rattle.cache.specs.Shape.{shaped}
 use Rattle.cache.specs.Cache.{Cache}
 use Rattle.cache.specs.Sets.{inSet}
-use Rattle.model.specs.Tasks.{Block, Task, block}
+use Rattle.cache.proofs.Bits.{and-ones}
+use Rattle.model.specs.Tasks.{Task, block}
 use Rattle.model.specs.Computed.{unmasked}
 use Rattle.rows.specs.Rows.{rowsOf}
 use Rattle.rows.proofs.Parts.{rows-at}
 use Rattle.points.specs.Points.{restOf, leftRows, predecessorsOf}
-use Rattle.pairs.specs.Pairs.{usefulSet}
-use Rattle.pairs.proofs.Meeting.{most-ones, most-few}
+use Rattle.row_sets.specs.Sets.{usefulSet}
 use Rattle.search.specs.declared.Point.{Point}
 use Rattle.search.specs.declared.Found.{Found}
 use Rattle.search.specs.Search.{Candidates, Raised, Below, AtEnd, OfSet, AtLive, OfRow, OfDone, pointAfter, AtReaching, OfReaching, AtBefore, OfBefore, fewestDone, AtDone, OfBlock, AtBlock}
@@ -79,7 +79,7 @@ module _ (p : Point) (l set : ℕ) (sets : List ℕ) where
 
   -- no more than 32 cache blocks are in common
   pub end-few : (e : ℕ) {n : ℕ} → set < 2 ^ 32 → n ≡ ones (bitAnd set (getD sets e 0)) → n ≤ 32
-  end-few e h count = omega (arith, most-few set (getD sets e 0 ∷ []) h)
+  end-few e h count = omega (arith, and-ones 32 set (getD sets e 0) h, ones-le 32 set h)
 
   module _ (e : ℕ) (a : Found) {new : Found} {n : ℕ} (count : n ≡ ones (bitAnd set (getD sets e 0))) where
     pub end-raised : a .cost < n + 1 → new ≡ record { point = p; live = l; ending = e; cost = n + 1 } → Raised (AtEnd p l set sets e) a new
@@ -98,7 +98,7 @@ module _ (p : Point) (l set : ℕ) (sets : List ℕ) where
   pub set-skipped : (a : Found) → set < 2 ^ 32 → ones set < a .cost → Raised (OfSet p l set sets) a a
   set-skipped a w h =
       raised-kept (OfSet p l set sets) a
-      (λ x s. omega (arith, ap (λ (y : Found). y .cost) (s .1), most-ones set (getD sets (x .ending) 0 ∷ []) w))
+      (λ x s. omega (arith, ap (λ (y : Found). y .cost) (s .1), and-ones 32 set (getD sets (x .ending) 0) w))
 
 -- ---- a row more: the row numbered k was lent as a part from w k to w k + w
 

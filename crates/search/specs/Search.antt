@@ -13,7 +13,7 @@ use Rattle.model.specs.Tasks.{Block, Task, block}
 use Rattle.model.specs.Computed.{unmasked}
 use Rattle.rows.specs.Rows.{Width}
 use Rattle.points.specs.Points.{restOf, leftRows, predecessorsOf}
-use Rattle.pairs.specs.Pairs.{usefulSet, replacedSets}
+use Rattle.row_sets.specs.Sets.{usefulSet, replacedSets}
 use Rattle.search.specs.declared.Point.{Point}
 use Rattle.search.specs.declared.Found.{Found}
 

@@ -8,7 +8,7 @@ use crate::Found;
 use crate::Point;
 use cache::sets::common;
 use cache::sets::useful;
-use pairs::replaced::replaced_sets;
+use row_sets::replaced::replaced_sets;
 
 // `old`, or the rows of a useful set at the point and the end row whose replaced set has most in common with it, if that costs more. A set of fewer
 // cache blocks than `old.cost` cannot cost more. Which is answered of several that cost most is left open, here and below.

@@ -4,14 +4,16 @@ use mathlib.Core.Path.{_≡_, refl, subst}
 use mathlib.Core.Logic.{_↔_}
 use mathlib.Core.Bool.{Bool, true, false≢true}
 use mathlib.Core.List.{List, [], _∷_}
-use Prim.Native.Nat.{ℕ}
+use Prim.Native.Nat.{ℕ, _<_}
 use lib.Dec.{eqb, ltb, leb}
 use lib.ListN.{length, getD}
 use borrow.Author.Tests.{eqb-true, eq-eqb, ltb-true, lt-ltb, leb-true, le-leb}
+use Rattle.cache.specs.References.{All}
 use Rattle.model.specs.Lists.{mem, Each}
-use Rattle.model.specs.Tasks.{Block, Task, block, Unmasked, Done, end, PathFrom, stay, step, Complete, task}
+use Rattle.model.specs.Tasks.{Task, block, Unmasked, Done, end, PathFrom, stay, step, Complete, task}
 use Rattle.model.specs.Runs.{Preemption}
 use Rattle.model.proofs.Membership.{both-left, both-right}
+use Rattle.model.proofs.Paths.{successor-below}
 use Rattle.model.proofs.Most.{unmasked-exact}
 use Rattle.sheet.specs.Sheet.{SheetRun, AllComplete, RightDone, AvoidsMasked}
 use Rattle.sheet.specs.Parsed.{leadsToEnd, completePath, eachPasses, completeBy, completeAll, rightDone, donePoint, doneAll, unmaskedPoint, unmaskedAll}
@@ -82,3 +84,16 @@ pub all-unmasked : (ts : List Task) (r : SheetRun) → (unmaskedAll ts r ≡ tru
 all-unmasked ts r =
     each-exact (λ (x : Preemption). Unmasked (task ts (r .p)) (getD (r .path) (x .position) 0)) (unmaskedPoint (task ts (r .p)) (r .path))
     (λ x. unmasked-exact (task ts (r .p)) (getD (r .path) (x .position) 0)) (r .preemptions)
+
+-- ---- the blocks of a complete path are blocks of the task
+
+leads-blocks : (t : Task) (b : ℕ) (p : List ℕ) → leadsToEnd t b p ≡ true → All (λ (c : ℕ). c < length t) (b ∷ p)
+leads-blocks t b [] e = (ltb-true b (length t) (both-left (ltb b (length t)) _ e), tt)
+leads-blocks t b (c ∷ p) e = (
+  successor-below t b c (both-left (mem eqb c (block t b .successors)) _ e),
+  leads-blocks t c p (both-right (mem eqb c (block t b .successors)) _ e),
+)
+
+pub complete-blocks : (t : Task) (path : List ℕ) → completePath t path ≡ true → All (λ (c : ℕ). c < length t) path
+complete-blocks t [] e = tt
+complete-blocks t (b ∷ p) e = leads-blocks t b p (both-right (eqb b 0) _ e)

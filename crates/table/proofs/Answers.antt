@@ -22,7 +22,8 @@ use Rattle.project.specs.Tasks.{tasksOf, fileShape, fileCacheIn}
 use Rattle.project.proofs.Checklists.{then-none, verdict-append}
 use Rattle.reader.proofs.TaskBodies.{refused-check}
 use Rattle.rows.specs.Rows.{areaLength}
-use Rattle.table.specs.Table.{test1, firstFull, fullChecks, tableCheck, tableOf, tableAnswer, pickTable, tableAfter}
+use Rattle.file_pairs.specs.FilePairs.{firstFull, tableOf}
+use Rattle.table.specs.Table.{test1, fullChecks, tableCheck, tableAnswer, pickTable, tableAfter}
 
 -- the checks after 1: those of the file, and check 11 of all tasks
 pub later-parts : (w : ℕ) (s : List ℕ) → verdictOf (fileChecks s ++ fullChecks w s) ≡ andThen (fileCheck s) (firstFull (fileCacheIn w s) 0 (tasksOf s))

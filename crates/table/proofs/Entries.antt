@@ -15,8 +15,9 @@ use Rattle.project.specs.Reading.{fileCheck}
 use Rattle.project.specs.Filling.{pickFilling}
 use Rattle.project.specs.File.{taskCount}
 use Rattle.project.proofs.Accepted.{unless-passed, then-passed, passing}
-use Rattle.table.specs.Table.{test1, tableCheck, entryOf, tableOf, TableEntries}
-use Rattle.table.proofs.TableLaws.{place-at}
+use Rattle.file_pairs.specs.FilePairs.{entryOf, tableOf}
+use Rattle.table.specs.Table.{test1, tableCheck, TableEntries}
+use Rattle.file_pairs.proofs.TableLaws.{place-at}
 use Rattle.table.proofs.Answers.{later-parts}
 
 pub filled-passed : (c : Check) → pickFilling c ≡ Filled → c ≡ Passed

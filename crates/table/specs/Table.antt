@@ -1,13 +1,11 @@
 -- Document 01, "Calls" and "Numbers of the checks": Table, for rows of w places. Definitions only.
 use mathlib.Core.Path.{_≡_}
 use mathlib.Core.Logic.{_≢_, _⊎_}
-use mathlib.Core.Bool.{Bool, not, _&&_, _||_, cond}
+use mathlib.Core.Bool.{Bool, not, _||_}
 use mathlib.Core.List.{List, [], _∷_, _++_, map}
-use Prim.Native.Nat.{ℕ, zero, suc, _+_, _*_, _<_}
-use lib.Dec.{eqb, ltb}
+use Prim.Native.Nat.{ℕ, _+_, _*_, _<_}
+use lib.Dec.{eqb}
 use lib.ListN.{length, getD}
-use Rattle.cache.specs.Cache.{Cache, rowFrom}
-use Rattle.model.specs.Tasks.{Task}
 use Rattle.model.specs.States.{Fault11}
 use Rattle.project.specs.declared.answers.Check.{Check}
 use Rattle.project.specs.declared.answers.Check.the-variants.{Passed}
@@ -15,12 +13,13 @@ use Rattle.project.specs.declared.answers.Check.the-variants.{Refused as Failed
 use Rattle.project.specs.declared.answers.Filling.{Filling}
 use Rattle.project.specs.declared.answers.Filling.the-variants.{Filled}
 use Rattle.project.specs.File.{File, taskCount}
-use Rattle.project.specs.Checklist.{Entry, one, each, noTask, Of, lowest, verdictOf}
+use Rattle.project.specs.Checklist.{Entry, one, each, noTask, Of, verdictOf}
 use Rattle.project.specs.Reading.{fileChecks}
 use Rattle.project.specs.Filling.{pickFilling}
 use Rattle.project.specs.Tasks.{tasksOf, fileCacheIn, fileCache, filePair}
 use Rattle.rows.specs.Rows.{Area, areaLength}
 use Rattle.graphs.specs.TaskRows.{test11}
+use Rattle.file_pairs.specs.FilePairs.{tableOf}
 
 -- check 1: "work area or table of another length"; the table is "of exactly 64 numbers"
 abbrev pub test1 : ℕ → Area → List ℕ → Bool
@@ -28,10 +27,6 @@ test1 w area table = not (eqb (length area) (areaLength w)) || not (eqb (length 
 
 abbrev pub Fault1 : ℕ → Area → List ℕ → Type 0
 Fault1 w area table = (length area ≢ areaLength w) ⊎ (length table ≢ 64)
-
--- check 11 "names the lowest task at fault", from task j on
-abbrev pub firstFull : Cache → ℕ → List Task → Check
-firstFull k j ts = lowest 11 j (map (test11 k) ts)
 
 -- check 11 of all tasks
 abbrev pub fullChecks : ℕ → File → List Entry
@@ -46,18 +41,6 @@ tableCheck w s area table = verdictOf (tableChecks w s area table)
 
 abbrev pub tableAnswer : ℕ → File → Area → List ℕ → Filling
 tableAnswer w s area table = pickFilling (tableCheck w s area table)
-
--- "place 8i + j gets the pair number of i preempted by j; the diagonal and places of absent tasks get 0": place (i, j)
-abbrev pub entryOf : File → ℕ → ℕ → ℕ
-entryOf s i j = cond (ltb i (taskCount s) && (ltb j (taskCount s) && not (eqb i j))) (filePair s i j) 0
-
--- the eight places of each of `left` rows, from row i on
-abbrev pub rowsFrom : (ℕ → ℕ → ℕ) → ℕ → ℕ → List ℕ
-rowsFrom f zero i = []
-rowsFrom f (suc left) i = rowFrom 0 8 (f i) ++ rowsFrom f left (suc i)
-
-unfoldable pub tableOf : File → List ℕ
-tableOf s = rowsFrom (entryOf s) 8 0
 
 abbrev pub pickTable : Check → List ℕ → List ℕ → List ℕ
 pickTable Passed old new = new

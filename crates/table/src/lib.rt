@@ -1,7 +1,4 @@
 // Table: the pair numbers of all tasks of a file.
-mod ends;
-mod numbers;
-
 ghost use mathlib.Core.Path.{_≡_};
 ghost use mathlib.Core.Bool.{true};
 ghost use lib.ListN.{length};
@@ -13,12 +10,13 @@ ghost use Rattle.project.specs.Bodies.{accepted};
 ghost use Rattle.project.specs.Filling.{pickFilling};
 ghost use Rattle.project.specs.Tasks.{tasksOf, fileShape};
 ghost use Rattle.pairs.specs.Pairs.{endsLength};
-ghost use Rattle.table.specs.Table.{firstFull, tableOf, pickTable, tableAnswer, tableAfter};
+ghost use Rattle.file_pairs.specs.FilePairs.{firstFull, tableOf};
+ghost use Rattle.table.specs.Table.{pickTable, tableAnswer, tableAfter};
 use area::AREA_LENGTH;
 use cache::blocks::CacheShape;
 use cache::numbers::byte_count;
-use ends::find_ends;
-use numbers::find_numbers;
+use file_pairs::ends::find_ends;
+use file_pairs::numbers::find_numbers;
 use project::answers::Check;
 use project::answers::Filling;
 use project::answers::NO_TASK;
@@ -26,16 +24,7 @@ use project::answers::Reading;
 use project::head::head;
 use reader::file_shape;
 use reader::read_bodies;
-
-// The table gets the numbers.
-fn copy_numbers(numbers: &[u16], table: &mut [u16])
-    requires { ⌜ (length (now numbers) ≡ 64) × (length (now table) ≡ 64) ⌝ }
-    ensures { λ _. ⌜ now (table .exit) ≡ now (numbers .entry) ⌝ }
-{
-    for k in 0..64 {
-        table[k] = numbers[k];
-    }
-}
+use rows::copy_row;
 
 // The table of an accepted file, gathered in an area for rows of w places, with room for 32 end rows of each of 8 tasks and the one row for them; check
 // 11. What the area and this room hold afterwards is free.
@@ -72,7 +61,7 @@ fn fill_table(
     ) {
         Check::Refused { check, task } => Filling::Refused { check, task },
         Check::Passed => {
-            copy_numbers(&numbers, table);
+            copy_row(&numbers, table);
             Filling::Filled
         }
     }

@@ -16,13 +16,13 @@ use Rattle.cache.specs.Cache.{Cache, emptyRow}
 use Rattle.cache.specs.Sets.{inSet}
 use Rattle.cache.proofs.NumberLaws.{length-numbers}
 use Rattle.model.specs.Lists.{best}
-use Rattle.model.specs.Tasks.{Block, Task, block}
+use Rattle.model.specs.Tasks.{Task, block}
 use Rattle.model.specs.Computed.{upFrom, dones, unmasked}
 use Rattle.rows.specs.Rows.{rowsOf}
 use Rattle.rows.proofs.Parts.{lent-front}
 use Rattle.points.specs.Points.{restOf, Rests, rowsIn, predecessorsOf, rowsBefore}
-use Rattle.points.proofs.Rests.{rows-more}
-use Rattle.pairs.specs.Lanes.{laneRows}
+use Rattle.rows.proofs.Parts.{rows-more}
+use Rattle.row_sets.specs.Lanes.{laneRows}
 use Rattle.pairs.specs.Pairs.{pointMost, Met}
 use Rattle.pairs.proofs.Meeting.{met-none, met-same, met-more}
 use Rattle.task_pairs.specs.TaskPairs.{doneMost, beforeMost, blockMost, taskMost}

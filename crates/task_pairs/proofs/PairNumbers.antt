@@ -19,7 +19,7 @@ use Rattle.cache.specs.Firsts.{firstsOver}
 use Rattle.cache.specs.Sets.{usefulReplaced}
 use Rattle.cache.proofs.Rows.{length-emptyRow, length-withReferences}
 use Rattle.model.specs.Lists.{mem, best}
-use Rattle.model.specs.Tasks.{Block, Task, block, Unmasked, Allows, end, references, memoryBlocks}
+use Rattle.model.specs.Tasks.{Task, block, Unmasked, Allows, end, references, memoryBlocks}
 use Rattle.model.specs.States.{Reaches, Lives}
 use Rattle.model.specs.Numbers.{Rows, counted}
 use Rattle.model.specs.Computed.{sameList, sorted, reaching, living, dones, unmasked, pairNumber}
@@ -34,8 +34,10 @@ use Rattle.rows.specs.Overlay.{overlay}
 use Rattle.points.specs.Points.{restOf, predecessorsOf, rowsBefore}
 use Rattle.points.proofs.Rests.{overlay-rest}
 use Rattle.points.proofs.Before.{before-exact}
-use Rattle.pairs.specs.Pairs.{usefulSet, replacedSet, replacedSets, mostCommon}
-use Rattle.pairs.proofs.ReplacedSets.{counts-as, over-ends}
+use Rattle.row_sets.specs.Sets.{usefulSet, replacedSet, replacedSets}
+use Rattle.pairs.specs.Pairs.{mostCommon}
+use Rattle.row_sets.proofs.ReplacedSets.{counts-as}
+use Rattle.pairs.proofs.Bounds.{over-ends}
 use Rattle.task_pairs.specs.TaskPairs.{doneMost, beforeMost, blockMost, taskMost}
 
 -- ---- the largest over the blocks of a task

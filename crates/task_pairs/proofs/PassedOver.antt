@@ -27,8 +27,10 @@ use Rattle.rows.proofs.Overlays.{length-overlay, held-overlay}
 use Rattle.points.specs.Points.{restOf, hitsNext}
 use Rattle.points.proofs.DoneRows.{one-done}
 use Rattle.points.proofs.Rests.{rest-long, rest-more}
-use Rattle.pairs.specs.Pairs.{usefulSet, replacedSet, replacedSets, mostCommon, pointMost, endsOf, Met}
-use Rattle.pairs.proofs.ReplacedSets.{counts-as, over-ends}
+use Rattle.row_sets.specs.Sets.{usefulSet, replacedSet, replacedSets}
+use Rattle.pairs.specs.Pairs.{mostCommon, pointMost, endsOf, Met}
+use Rattle.row_sets.proofs.ReplacedSets.{counts-as}
+use Rattle.pairs.proofs.Bounds.{over-ends}
 use Rattle.pairs.proofs.Meeting.{met-none, met-same}
 use Rattle.task_pairs.specs.TaskPairs.{doneMost}
 

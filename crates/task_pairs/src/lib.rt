@@ -13,7 +13,7 @@ ghost use Rattle.body.specs.Walk.{keptOf};
 ghost use Rattle.rows.specs.Rows.{rowsOf};
 ghost use Rattle.gather.specs.Memory.{Memory, heldRows};
 ghost use Rattle.points.specs.Points.{rowsIn, rowsBefore};
-ghost use Rattle.pairs.specs.Lanes.{laneRows};
+ghost use Rattle.row_sets.specs.Lanes.{laneRows};
 ghost use Rattle.pairs.specs.Pairs.{EndRows, Met};
 ghost use Rattle.task_pairs.specs.TaskPairs.{doneMost, beforeMost, blockMost, taskMost, PointRows};
 use body::jumps::jumps;
@@ -23,11 +23,11 @@ use body::references;
 use body::walk;
 use cache::blocks::CacheShape;
 use graphs::task_rows::NO_ROWS;
-use pairs::lanes::lay_lanes;
 use pairs::numbers::meet_point;
 use points::done::hits_next;
 use points::done::refer_row;
 use points::left::rests;
+use row_sets::lanes::lay_lanes;
 use rows::copy_row;
 
 // The points of a block after each of its references are met, for the row before the block; in the end the row is that after all of them.

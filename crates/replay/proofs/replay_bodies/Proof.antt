@@ -4,7 +4,7 @@ use Rattle.project.specs.declared.answers.Check.the-variants.{Passed}
 use Rattle.project.specs.declared.answers.Reading.the-variants.{Accepted}
 use Rattle.project.specs.Reading.{readingOf}
 use Rattle.project.specs.Bodies.{accepted}
-use Rattle.replay.specs.Replay.{sheetCheck}
+use Rattle.sheet_checks.specs.SheetChecks.{sheetCheck}
 use Rattle.replay.proofs.CallLaws.{call-refused, tasks-of, call-sheet, ready, call-counted}
 use borrow.Author.Needs.{needs}
 use Rattle.replay.proofs.replay_bodies.Statement.{statement}

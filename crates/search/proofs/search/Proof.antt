@@ -16,8 +16,8 @@ use Rattle.body.proofs.JumpLaws.{in-unmasked}
 use Rattle.rows.specs.Rows.{rowsOf}
 use Rattle.rows.proofs.Parts.{row-within}
 use Rattle.gather.specs.Memory.{heldRows}
-use Rattle.points.proofs.Rests.{lent-long}
-use Rattle.pairs.proofs.Meeting.{held-at}
+use Rattle.rows.proofs.Parts.{lent-long}
+use Rattle.gather.proofs.Handing.{held-at}
 use Rattle.search.specs.Search.{Raised, Below, AtBlock, noneFound}
 use Rattle.search.proofs.BlockLaws.{TaskParts, task-parts, lent-few}
 use Rattle.search.proofs.Raising.{raised-none, block-more, block-out}

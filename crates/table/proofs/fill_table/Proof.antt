@@ -1,9 +1,10 @@
 -- `fill_table` meets its contract: the end rows of all tasks, then the numbers of each, and the table last. Assumes nothing.
 use mathlib.Core.Path.{refl, sym, ap, _∙_}
+use native.Mathlib.Omega.{arith}
 use lib.ListN.{length}
 use borrow.Author.Needs.{needs}
 use Rattle.cache.specs.Shape.{shaped}
-use Rattle.table.proofs.TableLaws.{table-long}
+use Rattle.file_pairs.proofs.TableLaws.{table-long}
 use Rattle.table.proofs.Answers.{too-many, all-filled}
 use Rattle.table.proofs.fill_table.Statement.{statement}
 use Rattle.table.proofs.fill_table.Tie as tie
@@ -40,14 +41,15 @@ enum-known-check c = search needs
 enum-told : tie.Need-enum-told
 enum-told c = search needs
 
-slice-aggregate-copy-numbers : tie.Need-slice-aggregate-copy-numbers
-slice-aggregate-copy-numbers c = search needs
+slice-aggregate-copy-row : tie.Need-slice-aggregate-copy-row
+slice-aggregate-copy-row c = search needs
 
-copy-numbers-requires : tie.Need-copy-numbers-requires
-copy-numbers-requires c κs =
+copy-row-requires : tie.Need-copy-row-requires
+copy-row-requires c κs =
     let start = c .before .before .before .before .before .before .before .before .before .before .before .before .before .before .before .before .before .before .before .before .before .before .before .before .before .before .before .before in
     let all = c .before .before .before .before .before .before .before .find-numbers .ensures .2 (c .before .before .enum-told .given .1) in
-    (ap length all ∙ table-long (start .args .file .now), start .pre .7)
+    let long = ap length all ∙ table-long (start .args .file .now) in
+    (omega (arith, long), start .pre .7 ∙ sym long)
 
 same-length : tie.Need-same-length
 same-length c = c .before .before .before .before .before .before .find-numbers .ensures .0 ∙ sym (c .before .before .before .before .before .before .before .before .before .before .before .before .before .before .before .before .before .before .before .before .before .before .before .before .before .before .before .pre .5)
@@ -76,7 +78,7 @@ returns-2 c =
     let args = c .before .before .before .before .before .before .before .before .before .before .before .before .before .before .before .before .before .before .before .before .before .before .before .before .before .before .before .before .before .before .before .args in
     let found = c .before .before .before .before .before .before .before .before .before .before .find-numbers .ensures in
     let passed = c .before .before .before .before .before .enum-told .given .1 in
-    let out = all-filled (shaped (args .w) (args .shape)) (args .file .now) (args .table .now) (found .1) passed (c .before .before .copy-numbers .ensures) (found .2) in
+    let out = all-filled (shaped (args .w) (args .shape)) (args .file .now) (args .table .now) (found .1) passed (c .before .before .copy-row .ensures) (found .2) in
     (out .0, out .1, found .0)
 
 pub fill-table-spec : {M : Type 1} → statement M
@@ -92,8 +94,8 @@ fill-table-spec =
     find-numbers-requires
     enum-known-check
     enum-told
-    slice-aggregate-copy-numbers
-    copy-numbers-requires
+    slice-aggregate-copy-row
+    copy-row-requires
     same-length
     same-length-2
     returns

@@ -11,7 +11,7 @@ use Rattle.task_pairs.proofs.Meetings.{no-references, as-wide, met-one,
 use borrow.Author.Needs.{needs}
 use native.Mathlib.Omega.{arith}
 use Rattle.task_pairs.proofs.meet_before.Statement.{statement}
-use Rattle.pairs.specs.Lanes.{laneRows}
+use Rattle.row_sets.specs.Lanes.{laneRows}
 use Rattle.task_pairs.proofs.meet_before.Tie as tie
 
 sub-meet-point : tie.Need-sub-meet-point

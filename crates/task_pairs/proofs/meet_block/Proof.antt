@@ -11,7 +11,7 @@ use Rattle.rows.proofs.Parts.{lent-front, front-room}
 use Rattle.gather.specs.Memory.{heldRows}
 use Rattle.points.specs.Points.{rowsBefore}
 use Rattle.graphs.proofs.Gathered.{first-wide}
-use Rattle.pairs.specs.Lanes.{laneRows}
+use Rattle.row_sets.specs.Lanes.{laneRows}
 use Rattle.pairs.specs.Pairs.{Met}
 use Rattle.task_pairs.specs.TaskPairs.{blockMost}
 use borrow.Author.Needs.{needs}

@@ -18,7 +18,7 @@ use Rattle.task_pairs.proofs.PassedOver.{SoFar, none-so-far, all-so-far
 use borrow.Author.Needs.{needs}
 use native.Mathlib.Omega.{arith}
 use Rattle.task_pairs.proofs.meet_done.Statement.{statement}
-use Rattle.pairs.specs.Lanes.{laneRows}
+use Rattle.row_sets.specs.Lanes.{laneRows}
 use Rattle.task_pairs.proofs.meet_done.Tie as tie
 
 abbrev Inv-loop : tie.InvT-loop

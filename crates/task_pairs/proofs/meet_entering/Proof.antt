@@ -9,10 +9,11 @@ use Rattle.cache.proofs.Members.{in-word, out-word}
 use Rattle.rows.proofs.Parts.{row-within}
 use Rattle.gather.specs.Memory.{heldRows}
 use Rattle.points.specs.Points.{rowsIn}
-use Rattle.points.proofs.Rests.{lent-long}
-use Rattle.pairs.specs.Lanes.{laneRows}
+use Rattle.rows.proofs.Parts.{lent-long}
+use Rattle.row_sets.specs.Lanes.{laneRows}
 use Rattle.pairs.specs.Pairs.{Met}
-use Rattle.pairs.proofs.Meeting.{held-at, met-none}
+use Rattle.gather.proofs.Handing.{held-at}
+use Rattle.pairs.proofs.Meeting.{met-none}
 use Rattle.task_pairs.specs.TaskPairs.{blockMost}
 use Rattle.task_pairs.proofs.Meetings.{met-in, met-out}
 use borrow.Author.Needs.{needs}

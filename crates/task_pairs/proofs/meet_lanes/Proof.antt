@@ -10,7 +10,7 @@ use borrow.Rule.Slice.PartMut.{putMid}
 use Rattle.rows.proofs.Parts.{front-room}
 use Rattle.gather.specs.Memory.{heldRows}
 use Rattle.graphs.proofs.Gathered.{nothings, first-wide}
-use Rattle.pairs.specs.Lanes.{laneRows}
+use Rattle.row_sets.specs.Lanes.{laneRows}
 use Rattle.task_pairs.specs.TaskPairs.{PointRows}
 use Rattle.task_pairs.proofs.Meetings.{room-rests, met-first, met-later}
 use borrow.Author.Needs.{needs}

@@ -6,8 +6,8 @@ use Rattle.cache.specs.References.{numbers as referencesIn}
 use Rattle.cache.specs.Shape.{shaped}
 use Rattle.rows.specs.Rows.{rowsOf}
 use Rattle.rows.proofs.Parts.{row-within}
-use Rattle.points.proofs.Rests.{lent-long}
-use Rattle.pairs.specs.Lanes.{laneRows}
+use Rattle.rows.proofs.Parts.{lent-long}
+use Rattle.row_sets.specs.Lanes.{laneRows}
 use Rattle.pairs.specs.Pairs.{Met}
 use Rattle.pairs.proofs.Meeting.{met-none}
 use Rattle.task_pairs.specs.TaskPairs.{blockMost}

@@ -17,9 +17,10 @@ use Rattle.rows.proofs.Parts.{row-within}
 use Rattle.gather.specs.Memory.{heldRows}
 use Rattle.graphs.proofs.Listed.{block-real}
 use Rattle.points.specs.Points.{predecessorsOf}
-use Rattle.points.proofs.Rests.{lent-long}
+use Rattle.rows.proofs.Parts.{lent-long}
 use Rattle.pairs.specs.Pairs.{Met}
-use Rattle.pairs.proofs.Meeting.{held-at, met-none}
+use Rattle.gather.proofs.Handing.{held-at}
+use Rattle.pairs.proofs.Meeting.{met-none}
 use Rattle.task_pairs.specs.TaskPairs.{taskMost}
 use Rattle.task_pairs.proofs.Meetings.{met-unmasked, met-masked}
 use borrow.Author.Needs.{needs}

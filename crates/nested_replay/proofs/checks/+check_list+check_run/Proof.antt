@@ -26,7 +26,7 @@ use Rattle.cache.proofs.numbers.count.Reads as count-reads
 use Rattle.nested_replay.proofs.checks.joined.Reads as joined-reads
 use Rattle.nested_replay.proofs.checks.point_unmasked.Reads as point-unmasked-reads
 use Rattle.reader.proofs.task_body.Reads as task-body-reads
-use Rattle.replay.proofs.checks.right_done.Reads as right-done-reads
+use Rattle.sheet_checks.proofs.right_done.Reads as right-done-reads
 use Rattle.sheet.proofs.complete.steps_to_end.Reads as steps-to-end-reads
 use Rattle.nested_replay.proofs.checks.+check_list+check_run.{statement}
 use Rattle.nested_replay.proofs.checks.+check_list+check_run.Tie.{close}

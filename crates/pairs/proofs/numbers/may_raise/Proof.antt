@@ -9,8 +9,8 @@ use lib.Count.{ones}
 use borrow.Author.Tests.{le-ltb}
 use Rattle.cache.specs.Sets.{bits}
 use borrow.Author.Needs.{needs}
-use Rattle.pairs.specs.Pairs.{someReplaces}
-use Rattle.pairs.proofs.Meeting.{and-ones}
+use Rattle.row_sets.specs.Sets.{someReplaces}
+use Rattle.cache.proofs.Bits.{and-ones}
 use Rattle.pairs.proofs.numbers.may_raise.Statement.{statement}
 use Rattle.pairs.proofs.numbers.may_raise.Tie as tie
 

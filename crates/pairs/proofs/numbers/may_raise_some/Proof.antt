@@ -7,7 +7,7 @@ use borrow.Author.Needs.{needs}
 use lib.ListN.{length, getD}
 use Rattle.rows.proofs.Parts.{row-within}
 use Rattle.pairs.specs.Pairs.{mayRaise, mayRaiseSome, endsOf}
-use Rattle.pairs.proofs.OneRow.{lent-joined}
+use Rattle.pairs.proofs.Meeting.{lent-joined}
 use Rattle.pairs.proofs.UsefulSets.{some-more, some-here}
 use Rattle.pairs.proofs.numbers.may_raise_some.Statement.{statement}
 use Rattle.pairs.proofs.numbers.may_raise_some.Tie as tie

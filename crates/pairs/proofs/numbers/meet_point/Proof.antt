@@ -3,8 +3,8 @@ use mathlib.Core.Path.{sym, _∙_}
 use Prim.Native.Nat.{_≤_}
 use native.Mathlib.Omega.{arith}
 use lib.ListN.{length}
-use Rattle.pairs.specs.Lanes.{laneRows}
-use Rattle.pairs.proofs.LaneSets.{lane-sets}
+use Rattle.row_sets.specs.Lanes.{laneRows}
+use Rattle.row_sets.proofs.LaneSets.{lane-sets}
 use Rattle.pairs.proofs.UsefulSets.{lent-sets, lent-useful, met-as-is}
 use Rattle.pairs.proofs.Meeting.{met-same}
 use borrow.Author.Needs.{needs}

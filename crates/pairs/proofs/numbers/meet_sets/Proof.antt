@@ -7,9 +7,10 @@ use borrow.Author.Needs.{needs}
 use lib.ListN.{length, getD, length-set}
 use Rattle.cache.specs.Sets.{bits}
 use Rattle.rows.proofs.Parts.{row-within}
-use Rattle.pairs.specs.Pairs.{someReplaces, usefulMost, endsOf, Met}
-use Rattle.pairs.proofs.Meeting.{held-at, lent-most, met-start, met-turn}
-use Rattle.pairs.proofs.OneRow.{lent-joined, lent-ends}
+use Rattle.gather.proofs.Handing.{held-at}
+use Rattle.row_sets.specs.Sets.{someReplaces}
+use Rattle.pairs.specs.Pairs.{usefulMost, endsOf, Met}
+use Rattle.pairs.proofs.Meeting.{lent-joined, lent-ends, lent-most, met-start, met-turn}
 use Rattle.pairs.proofs.numbers.meet_sets.Statement.{statement}
 use Rattle.pairs.proofs.numbers.meet_sets.Tie as tie
 

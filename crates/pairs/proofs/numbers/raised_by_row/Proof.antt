@@ -9,7 +9,7 @@ use lib.ListN.{length}
 use Rattle.rows.specs.Rows.{rowsOf}
 use Rattle.rows.proofs.Parts.{lent-first}
 use Rattle.pairs.specs.Pairs.{setsMost, pointMost, usefulMost}
-use Rattle.pairs.proofs.ReplacedSets.{stays-replaced}
+use Rattle.pairs.proofs.Bounds.{stays-replaced}
 use Rattle.pairs.proofs.UsefulSets.{useful-most, part-bounded, most-of-all, most-of-largest}
 use Rattle.pairs.proofs.numbers.raised_by_row.Statement.{statement}
 use Rattle.pairs.proofs.numbers.raised_by_row.Tie as tie

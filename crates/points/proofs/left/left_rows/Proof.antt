@@ -1,15 +1,14 @@
 -- `left::left_rows` meets its contract: after k turns the first k rows are overlaid. Assumes nothing.
 use mathlib.Core.List.{_++_}
-use Rattle.rows.proofs.Parts.{lent-back, replaced-length}
 use Rattle.rows.proofs.Overlays.{length-overlay}
-use Rattle.points.proofs.Rests.{lent-long, left-more}
+use Rattle.points.proofs.Rests.{left-more}
 use borrow.Author.Needs.{needs}
 use native.Mathlib.Omega.{arith}
 use mathlib.Core.Path.{_≡_, sym, ap, _∙_}
 use Prim.Native.Nat.{ℕ, _+_, _*_, _-_, _≤_}
 use lib.ListN.{length, take, drop}
 use Rattle.rows.specs.Rows.{rowsOf}
-use Rattle.rows.proofs.Parts.{row-within}
+use Rattle.rows.proofs.Parts.{row-within, replaced-length, lent-back, lent-long}
 use Rattle.points.specs.Points.{leftRows}
 use Rattle.points.proofs.left.left_rows.Statement.{statement}
 use Rattle.points.proofs.left.left_rows.Tie as tie

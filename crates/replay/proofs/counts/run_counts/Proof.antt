@@ -11,9 +11,9 @@ use Rattle.reader.proofs.TaskBodies.{reading}
 use Rattle.runs.specs.Running.{heldBoth, PathIn}
 use Rattle.runs.specs.Parts.{lastPoint}
 use Rattle.runs.specs.declared.part.PathPoint.{PathPoint}
-use Rattle.replay.specs.Replay.{runIn}
-use Rattle.replay.proofs.SheetLaws.{SheetFacts, sheet-facts, own-there, own-within}
-use Rattle.replay.proofs.OwnPath.{ownTask, pathPart, own-task, own-blocks, own-in}
+use Rattle.sheet_checks.specs.SheetChecks.{runIn}
+use Rattle.sheet_checks.proofs.SheetLaws.{SheetFacts, sheet-facts, own-there, own-within}
+use Rattle.sheet_checks.proofs.OwnPath.{ownTask, pathPart, own-task, own-blocks, own-in}
 use Rattle.replay.proofs.CountLaws.{pointOf, RunLeft, RunNext, OwnRun, own-moved, ran-moved, ByRun, run-start, run-next, point-is, own-run, by-run, run-turn, end-run, run-end}
 use Rattle.replay.proofs.counts.run_counts.Statement.{statement}
 use Rattle.replay.proofs.counts.run_counts.Tie as tie

@@ -6,7 +6,7 @@ use borrow.Author.Needs.{needs}
 use lib.ListN.{length}
 use Rattle.rows.specs.Rows.{rowsOf}
 use Rattle.rows.proofs.Parts.{row-within, rows-length}
-use Rattle.points.proofs.Rests.{lent-long}
+use Rattle.rows.proofs.Parts.{lent-long}
 use Rattle.search.specs.Search.{Raised, Below, AtLive}
 use Rattle.search.proofs.Raising.{raised-none, live-more}
 use Rattle.search.proofs.at_point.over_live.Statement.{statement}

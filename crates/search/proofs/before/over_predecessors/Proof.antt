@@ -10,8 +10,8 @@ use Rattle.cache.proofs.Members.{in-word, out-word}
 use Rattle.rows.specs.Rows.{rowsOf}
 use Rattle.rows.proofs.Parts.{row-within}
 use Rattle.gather.specs.Memory.{heldRows}
-use Rattle.points.proofs.Rests.{lent-long}
-use Rattle.pairs.proofs.Meeting.{held-at}
+use Rattle.rows.proofs.Parts.{lent-long}
+use Rattle.gather.proofs.Handing.{held-at}
 use Rattle.search.specs.Search.{Raised, Below, AtBefore}
 use Rattle.search.proofs.Raising.{raised-none, before-more, before-out}
 use Rattle.search.proofs.before.over_predecessors.Statement.{statement}

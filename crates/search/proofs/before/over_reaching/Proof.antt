@@ -8,7 +8,7 @@ use Rattle.cache.specs.References.{numbers}
 use Rattle.cache.specs.Shape.{shaped}
 use Rattle.rows.specs.Rows.{rowsOf}
 use Rattle.rows.proofs.Parts.{row-within, rows-length}
-use Rattle.points.proofs.Rests.{lent-long}
+use Rattle.rows.proofs.Parts.{lent-long}
 use Rattle.search.specs.Search.{Raised, Below, AtReaching}
 use Rattle.search.proofs.Raising.{raised-none, reaching-more}
 use Rattle.search.proofs.before.over_reaching.Statement.{statement}

@@ -11,7 +11,7 @@ use Rattle.cache.proofs.NumberLaws.{length-numbers}
 use Rattle.rows.specs.Rows.{rowsOf}
 use Rattle.rows.proofs.Parts.{row-within, lent-front, front-long, front-room}
 use Rattle.gather.specs.Memory.{heldRows}
-use Rattle.points.proofs.Rests.{lent-long}
+use Rattle.rows.proofs.Parts.{lent-long}
 use Rattle.search.specs.Search.{Raised, OfBefore}
 use Rattle.search.proofs.BlockLaws.{room-long, rest-lent, left-is}
 use Rattle.search.proofs.block.over_point.Statement.{statement}

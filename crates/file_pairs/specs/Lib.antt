@@ -1,0 +1,2 @@
+pub mod FilePairs
+pub mod Found

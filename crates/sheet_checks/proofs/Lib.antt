@@ -1,0 +1,4 @@
+pub mod SheetLaws
+pub mod OwnPath
+pub mod PointLaws
+pub mod CheckLaws
