@@ -1,7 +1,6 @@
 pub mod SheetLists
 pub mod RunParts
 pub mod TaskTables
-pub mod MapLaws
 pub mod CheckLaws
 pub mod Rests
 pub mod FewReferences

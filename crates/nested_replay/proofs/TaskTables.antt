@@ -21,7 +21,7 @@ use Rattle.project.proofs.Accepted.{passing, accepted-passed}
 use Rattle.reader.proofs.TaskBodies.{reading, task-body, body-kept, body-task}
 use Rattle.sheet.specs.Parsed.{completePath, completeBySets}
 use Rattle.sheet.proofs.StepLaws.{complete-by-sets}
-use Rattle.nested_replay.specs.Passes.{HasStarts, HasJumps, HasUnmasked}
+use Rattle.task_maps.specs.TaskMaps.{HasStarts, HasJumps, HasUnmasked}
 
 pub few-tasks : (s : List ℕ) → accepted (readingOf s) ≡ true → taskCount s ≤ 8
 few-tasks s h = passing s (accepted-passed s (cacheBlocks s) (taskCount s) (reading s h) .0) .t-high

@@ -29,7 +29,8 @@ use Rattle.runs.proofs.RunLaws.{walked}
 use Rattle.runs.proofs.Segments.{done-le}
 use Rattle.nested_sheet.specs.NestedRuns.{taskAt, pathAt, ListAt, listAt, withRun, listOf, ownList, nestedRunOf}
 use Rattle.nested_replay.specs.NestedReplay.{totalIn}
-use Rattle.nested_replay.specs.Passes.{RunReplays, ListReplays, restReferences, referencesFrom, HasStarts}
+use Rattle.task_maps.specs.TaskMaps.{HasStarts}
+use Rattle.nested_replay.specs.Passes.{RunReplays, ListReplays, restReferences, referencesFrom}
 use Rattle.nested_replay.proofs.Rests.{rests-all}
 use Rattle.nested_replay.proofs.SheetLists.{list-next, list-grows}
 use Rattle.nested_replay.proofs.RunParts.{pathPart, part-path, its-list, run-stands, run-there, run-kept, run-task}

@@ -3,17 +3,14 @@ use mathlib.Core.Path.{_≡_}
 use mathlib.Core.Bool.{Bool, true, _&&_, cond}
 use mathlib.Core.List.{List, _++_}
 use Prim.Native.Nat.{ℕ, zero, suc, _+_, _*_, _≤_, _<_}
-use lib.ListN.{length, getD, take, drop}
+use lib.ListN.{length}
 use Rattle.model.specs.Tasks.{Task, Path, Complete, task}
 use Rattle.model.specs.Runs.{RowCount}
 use Rattle.model.specs.Nested.{RunList, noRun, aRun, RiseFrom, allReferences}
-use Rattle.body.specs.Decode.{decode}
-use Rattle.body.specs.Walk.{startsOf}
-use Rattle.body.specs.Jumps.{jumpSets, unmaskedSet}
 use Rattle.project.specs.declared.answers.Check.{Check}
 use Rattle.project.specs.declared.answers.Check.the-variants.{Passed}
 use Rattle.project.specs.declared.answers.Check.the-variants.{Refused as Failed}
-use Rattle.project.specs.File.{File, taskCount, bodyOf}
+use Rattle.project.specs.File.{File, taskCount}
 use Rattle.project.specs.Reading.{readingOf}
 use Rattle.project.specs.Bodies.{accepted}
 use Rattle.project.specs.Tasks.{tasksOf}
@@ -98,20 +95,3 @@ pub record ListReplays (s : File) (sheet : Sheet) (t : Task) (path : Path) (from
 abbrev pub mostReferences : ℕ → ℕ
 mostReferences zero = 24576
 mostReferences (suc deep) = 24576 + 16 * mostReferences deep
-
--- ---- what is found once for each task of a file
-
--- where the blocks of each task begin, 24 places a task; the places of absent tasks are left open
-pub record HasStarts (s : File) (list : List ℕ) : Type 0 where
-  pub long : length list ≡ 192
-  pub starts : (j : ℕ) → j < taskCount s → take 24 (drop (24 * j) list) ≡ startsOf (decode (bodyOf s j))
-
--- the sets of the successors of each task's blocks, likewise
-pub record HasJumps (s : File) (list : List ℕ) : Type 0 where
-  pub long : length list ≡ 192
-  pub jumps : (j : ℕ) → j < taskCount s → take 24 (drop (24 * j) list) ≡ jumpSets (task (tasksOf s) j)
-
--- the set of the unmasked blocks of each task
-pub record HasUnmasked (s : File) (list : List ℕ) : Type 0 where
-  pub long : length list ≡ 8
-  pub unmasked : (j : ℕ) → j < taskCount s → getD list j 0 ≡ unmaskedSet (task (tasksOf s) j)

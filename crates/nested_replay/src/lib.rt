@@ -1,6 +1,5 @@
 // Nested replay: the misses of a run and of all runs within it, from an empty cache.
 mod checks;
-mod maps;
 mod totals;
 
 ghost use mathlib.Core.Path.{_≡_};
@@ -13,9 +12,6 @@ ghost use Rattle.nested_replay.specs.NestedReplay.{nestedReplayingOf};
 use cache::blocks::CacheShape;
 use cache::numbers::byte_count;
 use checks::check_runs;
-use maps::all_jumps;
-use maps::all_starts;
-use maps::all_unmasked;
 use nested_sheet::rules::sheet_fault;
 use project::answers::Check;
 use project::answers::NO_TASK;
@@ -23,6 +19,9 @@ use project::answers::Reading;
 use project::head::head;
 use reader::file_shape;
 use reader::read_bodies;
+use task_maps::all_jumps;
+use task_maps::all_starts;
+use task_maps::all_unmasked;
 use totals::total_misses;
 
 // What Nested replay answers: the misses of all runs, or the check that fails first and the task it names.

@@ -1,4 +1,4 @@
--- `maps::all_starts` meets its contract: after j turns the starts of the first j tasks stand in the list. Assumes nothing.
+-- `all_starts` meets its contract: after j turns the starts of the first j tasks stand in the list. Assumes nothing.
 use mathlib.Core.Path.{_≡_, refl, ap, _∙_}
 use mathlib.Core.List.{List}
 use Prim.Native.Nat.{ℕ, _-_, _≤_, _<_}
@@ -9,9 +9,9 @@ use Rattle.body.specs.Decode.{decode}
 use Rattle.body.specs.Walk.{startsOf}
 use Rattle.project.specs.File.{bodyOf}
 use Rattle.reader.proofs.TaskBodies.{task-body as of-task}
-use Rattle.nested_replay.proofs.MapLaws.{PartsBelow, parts-none, part-long, parts-turn}
-use Rattle.nested_replay.proofs.maps.all_starts.Statement.{statement}
-use Rattle.nested_replay.proofs.maps.all_starts.Tie as tie
+use Rattle.task_maps.proofs.MapLaws.{PartsBelow, parts-none, part-long, parts-turn}
+use Rattle.task_maps.proofs.all_starts.Statement.{statement}
+use Rattle.task_maps.proofs.all_starts.Tie as tie
 
 -- where the blocks of task i begin
 abbrev found : List ℕ → ℕ → List ℕ

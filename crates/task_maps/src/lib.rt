@@ -6,7 +6,7 @@ ghost use lib.ListN.{length};
 ghost use Rattle.project.specs.File.{taskCount};
 ghost use Rattle.project.specs.Reading.{readingOf};
 ghost use Rattle.project.specs.Bodies.{accepted};
-ghost use Rattle.nested_replay.specs.Passes.{HasStarts, HasJumps, HasUnmasked};
+ghost use Rattle.task_maps.specs.TaskMaps.{HasStarts, HasJumps, HasUnmasked};
 use body::jumps::jumps;
 use body::masks::unmasked_blocks;
 use body::walk;

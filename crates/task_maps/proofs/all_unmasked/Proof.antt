@@ -1,4 +1,4 @@
--- `maps::all_unmasked` meets its contract: after j turns the sets of the first j tasks stand in the list. Assumes nothing.
+-- `all_unmasked` meets its contract: after j turns the sets of the first j tasks stand in the list. Assumes nothing.
 use mathlib.Core.Path.{_≡_, refl, ap, _∙_}
 use mathlib.Core.List.{List}
 use Prim.Native.Nat.{ℕ, _-_, _≤_, _<_}
@@ -10,9 +10,9 @@ use Rattle.body.specs.Jumps.{unmaskedSet}
 use Rattle.project.specs.Tasks.{tasksOf}
 use Rattle.reader.proofs.TaskBodies.{TaskBody, body-kept, body-task}
 use Rattle.reader.proofs.TaskBodies.{task-body as of-task}
-use Rattle.nested_replay.proofs.MapLaws.{NumbersBelow, numbers-none, numbers-turn}
-use Rattle.nested_replay.proofs.maps.all_unmasked.Statement.{statement}
-use Rattle.nested_replay.proofs.maps.all_unmasked.Tie as tie
+use Rattle.task_maps.proofs.MapLaws.{NumbersBelow, numbers-none, numbers-turn}
+use Rattle.task_maps.proofs.all_unmasked.Statement.{statement}
+use Rattle.task_maps.proofs.all_unmasked.Tie as tie
 
 -- the unmasked blocks of task i
 abbrev found : List ℕ → ℕ → ℕ

@@ -1,4 +1,4 @@
--- `maps::all_jumps` meets its contract: after j turns the sets of the first j tasks stand in the list. Assumes nothing.
+-- `all_jumps` meets its contract: after j turns the sets of the first j tasks stand in the list. Assumes nothing.
 use mathlib.Core.Path.{_≡_, refl, ap, _∙_}
 use mathlib.Core.List.{List}
 use Prim.Native.Nat.{ℕ, _-_, _≤_, _<_}
@@ -10,9 +10,9 @@ use Rattle.body.specs.Jumps.{jumpSets}
 use Rattle.project.specs.Tasks.{tasksOf}
 use Rattle.reader.proofs.TaskBodies.{TaskBody, body-kept, body-task}
 use Rattle.reader.proofs.TaskBodies.{task-body as of-task}
-use Rattle.nested_replay.proofs.MapLaws.{PartsBelow, parts-none, part-long, parts-turn}
-use Rattle.nested_replay.proofs.maps.all_jumps.Statement.{statement}
-use Rattle.nested_replay.proofs.maps.all_jumps.Tie as tie
+use Rattle.task_maps.proofs.MapLaws.{PartsBelow, parts-none, part-long, parts-turn}
+use Rattle.task_maps.proofs.all_jumps.Statement.{statement}
+use Rattle.task_maps.proofs.all_jumps.Tie as tie
 
 -- the sets of the successors of task i's blocks
 abbrev found : List ℕ → ℕ → List ℕ
