@@ -6,16 +6,16 @@ use mathlib.Core.List.{List, []}
 use Prim.Native.Nat.{ℕ, _+_, _-_, _*_, _≤_, _<_}
 use native.Mathlib.Omega.{arith}
 use lib.Dec.{eqb, ltb}
-use lib.ListN.{length, getD, take, drop, length-drop}
+use lib.ListN.{length, getD, take, drop}
 use borrow.Author.Tests.{eqb-true, eqb-false, ltb-true, ltb-false}
 use Rattle.cache.specs.Sets.{inSet}
 use Rattle.rows.specs.Overlay.{overlay}
 use Rattle.rows.specs.Rows.{partOf, rowsOf}
 use Rattle.gather.specs.Graph.{rowAt}
 use Rattle.gather.specs.Memory.{heldRows, Memory, withRow, AppendedTo, Handed, FullAt, HandedOn}
-use lib.Seq.{drop-drop, length-take-le}
+use lib.Seq.{drop-drop}
 use Rattle.rows.proofs.Overlays.{length-overlay}
-use Rattle.rows.proofs.Parts.{row-within, rows-length, rows-at, part-of-part}
+use Rattle.rows.proofs.Parts.{row-within, rows-length, rows-at, part-wide, part-of-part}
 
 -- ---- rows in the code's words
 
@@ -132,11 +132,10 @@ module _ (w : ℕ) (rows counts leaving : List ℕ) (b k : ℕ) (memory : Memory
 
   pub left-long : length made ≡ w
   left-long =
-      let n : 32 * w * b + w * k + w - (32 * w * b + w * k) ≡ w = omega arith in
       let few = memory .few b inside in
       ap length told
       ∙ length-overlay (take (32 * w * b + w * k + w - (32 * w * b + w * k)) (drop (32 * w * b + w * k) rows)) (take (w * b + w - w * b) (drop (w * b) leaving))
-      ∙ rw n (length-take-le w (drop (32 * w * b + w * k) rows) (simp length-drop (omega (arith, memory .long, within-memory w b k inside (omega (arith, few))))))
+      ∙ part-wide (32 * w * b + w * k) w rows (omega (arith, memory .long, within-memory w b k inside (omega (arith, few))))
 
   pub left-row : length (overlay (getD (heldRows w rows counts b) k []) (rowAt w leaving b)) ≡ w
   left-row = ap length (sym left-is) ∙ left-long

@@ -4,8 +4,7 @@ use mathlib.Core.Bool.{Bool, true}
 use mathlib.Core.List.{List}
 use Prim.Native.Nat.{ℕ, _+_, _-_, _*_, _≤_, _<_}
 use native.Mathlib.Omega.{arith}
-use lib.ListN.{length, getD, take, drop, length-drop}
-use lib.Seq.{length-take-le}
+use lib.ListN.{length, getD, take, drop}
 use Rattle.model.specs.Tasks.{task}
 use Rattle.body.specs.Layout.{InBounds}
 use Rattle.body.specs.Decode.{decode, taskOf}
@@ -19,6 +18,7 @@ use Rattle.project.specs.Bodies.{accepted}
 use Rattle.project.specs.Tasks.{tasksOf}
 use Rattle.project.proofs.Accepted.{passing, accepted-passed}
 use Rattle.reader.proofs.TaskBodies.{reading, task-body, body-kept, body-task}
+use Rattle.rows.proofs.Parts.{lent-long}
 use Rattle.sheet.specs.Parsed.{completePath, completeBySets}
 use Rattle.sheet.proofs.StepLaws.{complete-by-sets}
 use Rattle.task_maps.specs.TaskMaps.{HasStarts, HasJumps, HasUnmasked}
@@ -35,8 +35,7 @@ module _ (s : List ℕ) (file : accepted (readingOf s) ≡ true) {y : ℕ} (ther
   part-within = omega (arith, there, few-tasks s file)
 
   pub part-long : (list : List ℕ) → length list ≡ 192 → length (taskPart y list) ≡ 24
-  part-long list h =
-      ap length (part-is list {from = 24 * y} {n = 24} refl refl) ∙ length-take-le 24 (drop (24 * y) list) (simp length-drop (omega (arith, h, part-within)))
+  part-long list h = lent-long 24 y 8 list (omega (arith, there, few-tasks s file)) h
 
   module _ {body : List ℕ} (eb : body ≡ bodyOf s y) where
     pub starts-part : {list : List ℕ} → HasStarts s list → taskPart y list ≡ startsOf (decode body)

@@ -8,14 +8,14 @@ use native.Mathlib.Nat.{le-trans}
 use native.Mathlib.Numerals.{add-one}
 use native.Mathlib.Omega.{arith}
 use lib.Dec.{eqb}
-use lib.ListN.{length, getD, set, take, drop, length-set, length-drop, drop-of-length-le}
-use lib.Seq.{drop-cons, getD-set-same, getD-set-other, length-take-le}
+use lib.ListN.{length, getD, set, take, drop, length-set, drop-of-length-le}
+use lib.Seq.{drop-cons, getD-set-same, getD-set-other}
 use lib.Count.{ones, ones-le}
 use borrow.Author.Tests.{eqb-true, eqb-false}
 use Rattle.cache.proofs.Bits.{and-ones}
 use Rattle.model.specs.Lists.{best}
 use Rattle.rows.specs.Rows.{rowsOf}
-use Rattle.rows.proofs.Parts.{row-within}
+use Rattle.rows.proofs.Parts.{row-within, part-wide}
 use Rattle.gather.proofs.Handing.{held-at}
 use Rattle.row_sets.specs.Sets.{Joined}
 use Rattle.pairs.specs.Pairs.{mostCommon, setsMost, endsOf, oneOf, EndRows, Met}
@@ -68,10 +68,7 @@ module _ (w : ℕ) (ends counts mixed : List ℕ) (tasks j : ℕ) (is : EndRows 
   lent-joined = rw lent-one (is .joined j l)
 
   pub lent-ends : length (take (32 * w * j + 32 * w - 32 * w * j) (drop (32 * w * j) ends)) ≡ 32 * w
-  lent-ends =
-      let s : 32 * w * j + 32 * w - 32 * w * j ≡ 32 * w = omega arith in
-      let inside : 32 * w ≤ length (drop (32 * w * j) ends) = simp length-drop (omega (arith, row-within (32 * w) j 8 (omega (arith, is .inside)), is .long)) in
-      rw s (length-take-le (32 * w) (drop (32 * w * j) ends) inside)
+  lent-ends = part-wide (32 * w * j) (32 * w) ends (omega (arith, row-within (32 * w) j 8 (omega (arith, is .inside)), is .long))
 
 -- ---- the numbers
 

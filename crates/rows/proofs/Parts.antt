@@ -163,12 +163,15 @@ lent-back base size l new = ap (λ (z : List ℕ). take base l ++ (new ++ z)) (p
 pub lent-row : (base : ℕ) (l row : List ℕ) {new : List ℕ} → new ≡ row → putMid base (base + length row - base) l new ≡ put l base row
 lent-row base l row {new} e = lent-back base (length row) l new ∙ ap (λ (x : List ℕ). take base l ++ (x ++ drop (base + length row) l)) e
 
--- the row numbered k of at most m rows, lent as a part from w k to w k + w: it has its width, and comes after the first k rows
+-- a part of w numbers that was lent
+pub part-wide : (a w : ℕ) (l : List ℕ) → a + w ≤ length l → length (take (a + w - a) (drop a l)) ≡ w
+part-wide a w l h =
+    let e : a + w - a ≡ w = omega arith in
+    rw e (length-take-le w (drop a l) (simp length-drop (omega arith)))
+
+-- the row numbered k of at most m rows, lent as a part: it has its width, and comes after the first k rows
 pub lent-long : (w k m : ℕ) (l : List ℕ) → k < m → length l ≡ m * w → length (take (w * k + w - w * k) (drop (w * k) l)) ≡ w
-lent-long w k m l h e =
-    let s : w * k + w - w * k ≡ w = omega arith in
-    let inside : w ≤ length (drop (w * k) l) = simp length-drop (omega (arith, row-within w k m h, mul-comm w m)) in
-    rw s (length-take-le w (drop (w * k) l) inside)
+lent-long w k m l h e = part-wide (w * k) w l (omega (arith, row-within w k m h, mul-comm w m))
 
 pub rows-more : (w k : ℕ) (l : List ℕ) → rowsOf w (k + 1) l ≡ rowsOf w k l ++ (take (w * k + w - w * k) (drop (w * k) l) ∷ [])
 rows-more w k l =

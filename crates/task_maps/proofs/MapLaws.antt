@@ -7,8 +7,8 @@ use Prim.Native.Nat.{ℕ, _+_, _*_, _-_, _≤_, _<_}
 use native.Mathlib.Nat.{not-suc-le-zero}
 use native.Mathlib.Omega.{arith}
 use lib.Dec.{eqb}
-use lib.ListN.{length, getD, set, take, drop, length-set, length-drop}
-use lib.Seq.{getD-set-same, getD-set-other, length-take-le}
+use lib.ListN.{length, getD, set, take, drop, length-set}
+use lib.Seq.{getD-set-same, getD-set-other}
 use borrow.Author.Tests.{eqb-true, eqb-false}
 use borrow.Rule.Slice.PartMut.{putMid}
 use Rattle.rows.proofs.Parts.{replaced-length, replaced-here, replaced-before, lent-back}
@@ -22,27 +22,21 @@ pub parts-none : (f : ℕ → List ℕ) (list : List ℕ) → length list ≡ 19
 parts-none f list e = record { long = e; parts = λ i l. absurd (not-suc-le-zero l) }
 
 -- the part of task j, as the code cuts it
-module _ (f : ℕ → List ℕ) (j : ℕ) (list : List ℕ) (few : j < 8) (so-far : PartsBelow f j list) where
-  pub part-long : length (take (24 * j + 24 - 24 * j) (drop (24 * j) list)) ≡ 24
-  part-long =
-      let s : 24 * j + 24 - 24 * j ≡ 24 = omega arith in
-      rw s (length-take-le 24 (drop (24 * j) list) (simp length-drop (omega (arith, so-far .long))))
+module _ (f : ℕ → List ℕ) (j : ℕ) (list : List ℕ) (few : j < 8) (so-far : PartsBelow f j list) {new : List ℕ} (same : length new ≡ 24) (is : new ≡ f j) where
+  fits : 24 * j + 24 ≤ length list
+  fits = omega (arith, so-far .long)
 
-  module _ {new : List ℕ} (same : length new ≡ 24) (is : new ≡ f j) where
-    fits : 24 * j + 24 ≤ length list
-    fits = omega (arith, so-far .long)
-
-    pub parts-turn : PartsBelow f (j + 1) (putMid (24 * j) (24 * j + 24 - 24 * j) list new)
-    parts-turn =
-        rw (lent-back (24 * j) 24 list new)
-        (record { long = replaced-length list new (24 * j) 24 fits same ∙ so-far .long; parts = λ i l. at i l (eqb i j) refl })
-      where
-        at : (i : ℕ) → i < j + 1 → (b : Bool) → eqb i j ≡ b → take 24 (drop (24 * i) (take (24 * j) list ++ (new ++ drop (24 * j + 24) list))) ≡ f i
-        at i l true e = rw (eqb-true i j e) (replaced-here list new (24 * j) 24 fits same ∙ is)
-        at i l false e =
-            let d = eqb-false i j e in
-            let before : i < j = omega (arith, d) in
-            replaced-before list new (24 * j) 24 fits same 24 (24 * i) (omega arith) ∙ so-far .parts i before
+  pub parts-turn : PartsBelow f (j + 1) (putMid (24 * j) (24 * j + 24 - 24 * j) list new)
+  parts-turn =
+      rw (lent-back (24 * j) 24 list new)
+      (record { long = replaced-length list new (24 * j) 24 fits same ∙ so-far .long; parts = λ i l. at i l (eqb i j) refl })
+    where
+      at : (i : ℕ) → i < j + 1 → (b : Bool) → eqb i j ≡ b → take 24 (drop (24 * i) (take (24 * j) list ++ (new ++ drop (24 * j + 24) list))) ≡ f i
+      at i l true e = rw (eqb-true i j e) (replaced-here list new (24 * j) 24 fits same ∙ is)
+      at i l false e =
+          let d = eqb-false i j e in
+          let before : i < j = omega (arith, d) in
+          replaced-before list new (24 * j) 24 fits same 24 (24 * i) (omega arith) ∙ so-far .parts i before
 
 -- the number that f says for each task below j
 pub record NumbersBelow (f : ℕ → ℕ) (j : ℕ) (list : List ℕ) : Type 0 where

@@ -3,12 +3,11 @@
 use mathlib.Core.Path.{_≡_, refl, sym, ap, _∙_}
 use mathlib.Core.Bool.{Bool, true, false, cond}
 use mathlib.Core.List.{List, [], _∷_, _++_, append-nil, append-assoc}
-use Prim.Native.Nat.{ℕ, zero, suc, _+_, _-_, _*_, _≤_, _<_, max}
+use Prim.Native.Nat.{ℕ, zero, suc, _+_, _-_, _*_, _<_, max}
 use native.Mathlib.Nat.{zero-add, add-zero}
 use native.Mathlib.Numerals.{add-one}
 use native.Mathlib.Omega.{arith}
-use lib.ListN.{length, take, drop, length-drop}
-use lib.Seq.{length-take-le}
+use lib.ListN.{length, take, drop}
 use borrow.Author.Tests.{eq-eqb, ne-eqb}
 use borrow.Rule.Slice.PartMut.{putMid}
 use Rattle.cache.specs.References.{numbers}
@@ -35,12 +34,6 @@ no-references s h = none (numbers s) (length-numbers s ∙ omega arith)
     none : (l : List ℕ) → length l ≡ 0 → l ≡ []
     none [] e = refl
     none (x ∷ l) e = absurd (omega arith)
-
--- a part of w numbers that was lent
-pub part-wide : (a w : ℕ) (l : List ℕ) → a + w ≤ length l → length (take (a + w - a) (drop a l)) ≡ w
-part-wide a w l h =
-    let e : a + w - a ≡ w = omega arith in
-    rw e (length-take-le w (drop a l) (simp length-drop (omega arith)))
 
 -- the rest rows, made in the first numbers of a room
 pub room-rests : (w : ℕ) (k : Cache) (ms l new : List ℕ) → k .width ≡ w → Rests k ms new → Rests k ms (take (17 * w - 0) (drop 0 (putMid 0 (17 * w - 0) l new)))

@@ -8,9 +8,10 @@ use lib.ListN.{length}
 use Rattle.model.specs.Tasks.{task}
 use Rattle.body.specs.Jumps.{jumpSets}
 use Rattle.project.specs.Tasks.{tasksOf}
+use Rattle.rows.proofs.Parts.{lent-long}
 use Rattle.reader.proofs.TaskBodies.{TaskBody, body-kept, body-task}
 use Rattle.reader.proofs.TaskBodies.{task-body as of-task}
-use Rattle.task_maps.proofs.MapLaws.{PartsBelow, parts-none, part-long, parts-turn}
+use Rattle.task_maps.proofs.MapLaws.{PartsBelow, parts-none, parts-turn}
 use Rattle.task_maps.proofs.all_jumps.Statement.{statement}
 use Rattle.task_maps.proofs.all_jumps.Tie as tie
 
@@ -72,7 +73,7 @@ put-sets-requires : tie.Need-put-sets-requires Inv-loop μ-loop
 put-sets-requires c κs =
     let n = c .before .before .before .before .before in
     let at = n .before .loop in
-    (search needs, part-long (found (n .before .before .before .args .file .now)) (at .j) (at .list) (few n .0) (at .inv .1))
+    (search needs, lent-long 24 (at .j) 8 (at .list) (few n .0) (at .inv .1 .long))
 
 add-j : tie.Need-add-j Inv-loop μ-loop
 add-j c = omega (arith, few (c .before .before .before .before .before .before .before))

@@ -8,8 +8,9 @@ use lib.ListN.{length}
 use Rattle.body.specs.Decode.{decode}
 use Rattle.body.specs.Walk.{startsOf}
 use Rattle.project.specs.File.{bodyOf}
+use Rattle.rows.proofs.Parts.{lent-long}
 use Rattle.reader.proofs.TaskBodies.{task-body as of-task}
-use Rattle.task_maps.proofs.MapLaws.{PartsBelow, parts-none, part-long, parts-turn}
+use Rattle.task_maps.proofs.MapLaws.{PartsBelow, parts-none, parts-turn}
 use Rattle.task_maps.proofs.all_starts.Statement.{statement}
 use Rattle.task_maps.proofs.all_starts.Tie as tie
 
@@ -64,7 +65,7 @@ put-starts-requires : tie.Need-put-starts-requires Inv-loop μ-loop
 put-starts-requires c κs =
     let n = c .before .before .before .before .before in
     let at = n .before .loop in
-    (search needs, part-long (found (n .before .before .before .args .file .now)) (at .j) (at .list) (few n .0) (at .inv .1))
+    (search needs, lent-long 24 (at .j) 8 (at .list) (few n .0) (at .inv .1 .long))
 
 add-j : tie.Need-add-j Inv-loop μ-loop
 add-j c = omega (arith, few (c .before .before .before .before .before .before .before))

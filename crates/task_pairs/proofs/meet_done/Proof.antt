@@ -10,10 +10,10 @@ use Rattle.cache.specs.References.{numbers as referencesIn}
 use Rattle.cache.specs.Cache.{withReferences}
 use Rattle.cache.specs.Shape.{shaped}
 use Rattle.cache.proofs.NumberLaws.{length-numbers}
-use Rattle.rows.proofs.Parts.{row-within}
+use Rattle.rows.proofs.Parts.{row-within, part-wide}
 use Rattle.points.specs.Points.{hitsNext}
 use Rattle.points.proofs.DoneRows.{one-done, all-done}
-use Rattle.task_pairs.proofs.Meetings.{part-wide, as-wide}
+use Rattle.task_pairs.proofs.Meetings.{as-wide}
 use Rattle.task_pairs.proofs.PassedOver.{SoFar, none-so-far, all-so-far, top-met, right-next, passed-next}
 use borrow.Author.Needs.{needs}
 use native.Mathlib.Omega.{arith}
