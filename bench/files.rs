@@ -2,6 +2,7 @@
 use crate::plain;
 
 pub mod drawn;
+pub mod times;
 
 /// A block: its successors and its references.
 pub type Block = (Vec<u8>, Vec<u16>);
@@ -93,6 +94,11 @@ fn optional_loads(n: usize, j: usize, loads: usize) -> Vec<Block> {
 /// Two tasks of one and of two blocks.
 pub fn tiny() -> Vec<u8> {
     file(2, &[body(&[(vec![0], vec![0, 1])]), body(&[(vec![1], vec![2]), (vec![], vec![5])])])
+}
+
+/// Eight tasks of one block without references, so that all pair numbers are 0.
+pub fn no_references() -> Vec<u8> {
+    file(1, &vec![body(&[(vec![], vec![])]); 8])
 }
 
 /// Four tasks of about a dozen blocks with two or three forks, most of which have one reference or none.

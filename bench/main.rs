@@ -3,18 +3,20 @@ mod files;
 mod plain;
 mod proved;
 
-use crpd::{AREA_LENGTH, COSTLIEST_SHEET_LENGTH, TABLE_LENGTH};
+use crpd::{Times, AREA_LENGTH, COSTLIEST_SHEET_LENGTH, TABLE_LENGTH};
 use files::drawn::{self, Drawn};
-use files::Parts;
+use files::{times, Parts};
 use std::hint::black_box;
 use std::time::Instant;
 
-/// The checks that an input of its own fails: on files, on sheets, on nested sheets, of the writer, and of the costliest run.
+/// The checks that an input of its own fails: on files, on sheets, on nested sheets, of the writer, of the costliest run, and of response
+/// times.
 const FILE_CHECKS: [u8; 8] = [2, 3, 4, 5, 6, 7, 8, 9];
 const SHEET_CHECKS: [u8; 3] = [12, 13, 16];
 const NESTED_CHECKS: [u8; 4] = [12, 13, 16, 20];
 const WRITER_CHECKS: [u8; 6] = [5, 6, 7, 8, 9, 14];
 const RUN_CHECKS: [u8; 2] = [18, 19];
+const TIMES_CHECKS: [u8; 1] = [21];
 
 /// How many calls take about 20 ms.
 fn calls_a_round(call: &mut impl FnMut()) -> usize {
@@ -88,7 +90,7 @@ impl Lines {
             greatest = greatest.max(proved_time / plain_time);
         }
         let (count, ratio) = (class.inputs.len() as f64, proved_sum / plain_sum);
-        println!("{:18} {:12.1} {:12.1} {ratio:8.3} {greatest:8.3}", class.name, plain_sum / count, proved_sum / count);
+        println!("{:18} {:12.1} {:12.1} {ratio:8.4} {greatest:8.4}", class.name, plain_sum / count, proved_sum / count);
         self.ratios.push((ratio, format!("{}, {}", self.call, class.name)));
     }
 
@@ -96,7 +98,7 @@ impl Lines {
     fn print_range(&mut self) {
         self.ratios.sort_by(|a, b| a.0.total_cmp(&b.0));
         let ((least, first), (greatest, last)) = (&self.ratios[0], &self.ratios[self.ratios.len() - 1]);
-        println!("proved to plain Rust: from {least:.3} ({first}) to {greatest:.3} ({last})");
+        println!("proved to plain Rust: from {least:.4} ({first}) to {greatest:.4} ({last})");
     }
 }
 
@@ -350,6 +352,76 @@ fn plain_lost(a: &Asked) -> Result<u32, plain::Refusal> {
     lost(&a.file, &sheet, answer)
 }
 
+/// A file, the times of its tasks, and the miss penalty.
+struct Budget {
+    file: Vec<u8>,
+    list: Vec<Times>,
+    penalty: u32,
+}
+
+/// Typical times for the tasks that a file speaks of.
+fn budget(file: Vec<u8>) -> Budget {
+    Budget { list: times::typical(files::last_task(&file) + 1), penalty: 20, file }
+}
+
+/// Times of tasks without references, so that the table takes little of the time.
+fn iterations() -> Vec<Class<Budget>> {
+    let without_misses = |list: Vec<Times>| Budget { file: files::no_references(), list, penalty: 0 };
+    let little_left = times::little_time_left().into_iter().map(without_misses).collect();
+    vec![
+        single("no references", without_misses(times::typical(8))),
+        single("overload", without_misses(times::overload())),
+        single("no time left", without_misses(times::no_time_left())),
+        Class { name: "little time left".to_string(), inputs: little_left },
+    ]
+}
+
+/// A deadline over its period.
+fn refused_times() -> [Budget; 1] {
+    [Budget { list: times::refused(8), ..budget(files::no_references()) }]
+}
+
+fn budget_classes() -> Vec<Class<Budget>> {
+    let with_times = |c: Class<Vec<u8>>| Class { name: c.name, inputs: c.inputs.into_iter().map(budget).collect() };
+    let mut classes: Vec<Class<Budget>> = file_classes().into_iter().map(with_times).collect();
+    classes.extend(iterations());
+    classes.extend(refused_by(&TIMES_CHECKS, refused_times()));
+    classes
+}
+
+fn response_times(lines: &mut Lines) {
+    lines.heading("Response times");
+    let (mut area, mut other_area) = (vec![0; AREA_LENGTH], vec![0; AREA_LENGTH]);
+    let (mut list, mut other) = (vec![], vec![]);
+    for class in &budget_classes() {
+        for b in &class.inputs {
+            list.clone_from(&b.list);
+            other.clone_from(&b.list);
+            let expected = plain::response_times(&b.file, &mut area, &mut list, b.penalty);
+            assert_eq!(expected, proved::response_times(&b.file, &mut other_area, &mut other, b.penalty), "{}", class.name);
+            assert_eq!(list, other, "{}", class.name);
+        }
+        lines.line(
+            class,
+            |b| {
+                list.clone_from(&b.list);
+                plain::response_times(&b.file, &mut area, &mut list, b.penalty)
+            },
+            |b| {
+                other.clone_from(&b.list);
+                proved::response_times(&b.file, &mut other_area, &mut other, b.penalty)
+            },
+        );
+    }
+}
+
+/// The answer of the plain version for a budget: the list, or its refusal.
+fn plain_times(b: &Budget) -> Result<Vec<Times>, plain::Refusal> {
+    let mut list = b.list.clone();
+    plain::response_times(&b.file, &mut [0; AREA_LENGTH], &mut list, b.penalty)?;
+    Ok(list)
+}
+
 /// The inputs that are to be refused fail the checks that they are made for.
 fn refused_as_meant() {
     let failed: Vec<u8> = files::refused_early().iter().map(|f| plain::replay(f, &[]).unwrap_err().0).collect();
@@ -369,6 +441,8 @@ fn refused_as_meant() {
     assert_eq!(plain::microseconds(17, 30, 72_000), Err((17, 255)));
     let failed: Vec<u8> = refused_runs().iter().map(|a| plain_lost(a).unwrap_err().0).collect();
     assert_eq!(failed, RUN_CHECKS);
+    let failed: Vec<u8> = refused_times().iter().map(|b| plain_times(b).unwrap_err().0).collect();
+    assert_eq!(failed, TIMES_CHECKS);
 }
 
 /// The table of a file that is accepted.
@@ -378,8 +452,13 @@ fn table_of(file: &[u8]) -> [u16; TABLE_LENGTH] {
     numbers
 }
 
+/// How many tasks of a budget are late.
+fn late(b: &Budget) -> usize {
+    plain_times(b).unwrap().iter().filter(|times| times.late).count()
+}
+
 /// The other inputs are accepted, the writer gives back the files that its parts are made from, masks and a library change the
-/// table, and the costliest runs reach the numbers of the table.
+/// table, the costliest runs reach the numbers of the table, and with typical times no task is late.
 fn accepted_as_meant() {
     for (file, sheet) in accepted_replays().into_iter().flat_map(|class| class.inputs) {
         let (without, with, lost) = plain::replay(&file, &sheet).unwrap();
@@ -401,14 +480,17 @@ fn accepted_as_meant() {
     let accepted = file_classes().into_iter().filter(|class| !class.name.starts_with("refused"));
     for file in accepted.flat_map(|class| class.inputs) {
         assert_eq!(plain_lost(&asked(file.clone())), Ok(table_of(&file)[files::last_task(&file)] as u32));
+        assert_eq!(late(&budget(file)), 0);
     }
+    let late_tasks: Vec<usize> = iterations().iter().flat_map(|class| &class.inputs).map(late).collect();
+    assert_eq!(late_tasks, [0, 5, 7, 0, 3]);
 }
 
 fn main() {
     refused_as_meant();
     accepted_as_meant();
     let mut lines = Lines::default();
-    for call in [table, states, replay, nested, write, microseconds, costliest_run] {
+    for call in [table, states, replay, nested, write, microseconds, costliest_run, response_times] {
         call(&mut lines);
         println!();
     }

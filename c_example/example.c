@@ -4,7 +4,7 @@
 #include <stdio.h>
 #include <stdlib.h>
 
-/* When a check of a file, of a number, penalty and clock, of two tasks or of a nested sheet fails. */
+/* When a check of a file, of a number, penalty and clock, of two tasks, of a nested sheet or of times fails. */
 static const char *meaning(uint8_t check)
 {
     switch (check) {
@@ -25,6 +25,9 @@ static const char *meaning(uint8_t check)
         return "the number is over 16, the penalty outside 1 to 1,000 or the clock outside 1 to 1,000,000";
     case CRPD_CHECK_TWO_TASKS: return "the two tasks are equal, or one is not in the file";
     case CRPD_CHECK_NESTED: return "a count is above 0 at depth 7, or a task occurs inside itself";
+    case CRPD_CHECK_TIMES:
+        return "there is not one record a task, a time is outside 1 to 1,000,000, a deadline over its period, "
+               "or the penalty over 1,000";
     default: return "a list is of another length";
     }
 }

@@ -1,8 +1,18 @@
-// Every list in turn without elements, its pointer null: each call answers as include/crpd.h says, from C++.
+// Every list in turn without elements, its pointer null: each call answers as include/crpd.h says, from C++. And where the
+// parts of a record of times stand, and that its late mark may be any byte before the call.
 #include "crpd.h"
 
+#include <cstddef>
 #include <cstdio>
 #include <vector>
+
+static_assert(sizeof(crpd_times) == 20, "the length of a record of times");
+static_assert(alignof(crpd_times) == 4, "the alignment of a record of times");
+static_assert(offsetof(crpd_times, c) == 0, "the place of c");
+static_assert(offsetof(crpd_times, t) == 4, "the place of t");
+static_assert(offsetof(crpd_times, d) == 8, "the place of d");
+static_assert(offsetof(crpd_times, r) == 12, "the place of r");
+static_assert(offsetof(crpd_times, late) == 16, "the place of late");
 
 static int failed = 0;
 
@@ -25,6 +35,7 @@ static uint16_t *const no_numbers = NULL;
 static uint32_t *const no_words = NULL;
 static uint64_t *const no_totals = NULL;
 static size_t *const no_counts = NULL;
+static crpd_times *const no_times = NULL;
 
 static void read_and_body()
 {
@@ -110,6 +121,68 @@ static void costliest_run()
            crpd_costliest_run(e, sizeof e, 0, 1, a, area_length, b, area_length, s, sheet_length, no_counts, 0));
 }
 
+static const uint32_t penalty = 3;
+
+// Times of the two tasks of E, whose response times are 1 and 6.
+static std::vector<crpd_times> times_of_e(uint32_t r, uint8_t late)
+{
+    const crpd_times first = {1, 10, 10, r, late}, second = {5, 20, 20, r, late};
+    return {first, second};
+}
+
+static void expect_record(const char *name, const crpd_times &expected, const crpd_times &found)
+{
+    const bool same = expected.c == found.c && expected.t == found.t && expected.d == found.d && expected.r == found.r
+                      && expected.late == found.late;
+    expect(name, 1, same);
+}
+
+static void response_times()
+{
+    std::vector<uint16_t> area(CRPD_AREA_LENGTH);
+    std::vector<crpd_times> times = times_of_e(7, 0);
+    uint16_t *a = &area[0];
+    crpd_times *list = &times[0];
+    uint8_t named[CRPD_NAMED_LENGTH];
+    expect("response times, file", CRPD_CHECK_FILE_LENGTH,
+           crpd_response_times(no_bytes, 0, a, CRPD_AREA_LENGTH, list, 2, penalty, named, 1));
+    expect("response times, area", CRPD_CHECK_LENGTHS,
+           crpd_response_times(e, sizeof e, no_numbers, 0, list, 2, penalty, named, 1));
+    expect("response times, area of 5", CRPD_CHECK_LENGTHS,
+           crpd_response_times(e, sizeof e, a, 5, list, 2, penalty, named, 1));
+    expect("response times, list", CRPD_CHECK_TIMES,
+           crpd_response_times(e, sizeof e, a, CRPD_AREA_LENGTH, no_times, 0, penalty, named, 1));
+    expect("response times, named", CRPD_CHECK_LENGTHS,
+           crpd_response_times(e, sizeof e, a, CRPD_AREA_LENGTH, list, 2, penalty, no_bytes, 0));
+    expect("response times, all lists", CRPD_CHECK_LENGTHS,
+           crpd_response_times(no_bytes, 0, no_numbers, 0, no_times, 0, penalty, no_bytes, 0));
+}
+
+// Each byte as the late mark before the call: an answer sets it, and a refusal keeps it.
+static void late_marks()
+{
+    std::vector<uint16_t> area(CRPD_AREA_LENGTH);
+    uint8_t named[CRPD_NAMED_LENGTH];
+    for (int mark = 0; mark < 256; mark++) {
+        const std::vector<crpd_times> before = times_of_e(UINT32_MAX, (uint8_t)mark);
+        std::vector<crpd_times> times = before;
+        crpd_times first = before[0], second = before[1];
+        expect("late mark, refused", CRPD_CHECK_TIMES,
+               crpd_response_times(e, sizeof e, &area[0], CRPD_AREA_LENGTH, &times[0], 2, 1001, named, 1));
+        expect_record("late mark, kept in record 0", first, times[0]);
+        expect_record("late mark, kept in record 1", second, times[1]);
+        times[1].d = second.d = 5;
+        expect("late mark, done", CRPD_DONE,
+               crpd_response_times(e, sizeof e, &area[0], CRPD_AREA_LENGTH, &times[0], 2, penalty, named, 1));
+        first.r = 1;
+        first.late = 0;
+        second.r = 0;
+        second.late = 1;
+        expect_record("late mark, in time", first, times[0]);
+        expect_record("late mark, late", second, times[1]);
+    }
+}
+
 int main()
 {
     read_and_body();
@@ -119,5 +192,7 @@ int main()
     nested();
     microseconds();
     costliest_run();
+    response_times();
+    late_marks();
     return failed;
 }

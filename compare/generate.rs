@@ -1,5 +1,5 @@
-//! Files and run sheets from a seed: valid ones of all shapes, and ones damaged in each check's way.
-use crate::independent::{complete, pack, Block, Task};
+//! Files, run sheets and times from a seed: valid ones of all shapes, and ones damaged in each check's way.
+use crate::independent::{complete, pack, Block, Record, Task};
 use std::collections::BTreeSet;
 
 /// xorshift, so that a seed gives the same cases everywhere.
@@ -795,4 +795,78 @@ pub fn nested_loop_sheet(length: usize, count: usize, other: usize) -> Vec<u16> 
         sheet.extend(vec![0; other + 1]);
     }
     sheet
+}
+
+/// Times of t tasks with periods up to `longest`, which ask for a small part of the time, for about all of it or for more. R and
+/// the late mark may be anything before the call.
+pub fn times(random: &mut Random, t: usize, longest: usize) -> Vec<Record> {
+    let part = random.pick(&[1, t, 2 * t, 8 * t]);
+    let mut periods: Vec<usize> = (0..t).map(|_| 1 + random.below(longest)).collect();
+    // in half of the lists a task with a shorter period is the higher one
+    if random.one_in(2) {
+        periods.sort();
+    }
+    let mut record = |period: usize| {
+        let c = 1 + if random.one_in(20) { random.below(longest) } else { random.below(period.div_ceil(part)) };
+        let d = if random.one_in(3) { 1 + random.below(period) } else { period };
+        Record { c: c as u32, t: period as u32, d: d as u32, r: random.next() as u32, late: random.one_in(2) }
+    };
+    periods.into_iter().map(&mut record).collect()
+}
+
+/// A miss penalty that check 21 takes.
+pub fn penalty(random: &mut Random) -> u32 {
+    let any = random.below(1001) as u32;
+    random.pick(&[0, 1, 2, 3, 10, 100, 1000, any])
+}
+
+/// Answered times with each deadline at R, one below it or one above it, where that lies in the period.
+pub fn deadlines(random: &mut Random, answered: &[Record]) -> Vec<Record> {
+    let mut next_to = |record: &Record| {
+        let d = random.pick(&[record.r.saturating_sub(1), record.r, record.r + 1]);
+        let right = !record.late && (1..=record.t).contains(&d);
+        Record { d: if right { d } else { record.d }, ..*record }
+    };
+    answered.iter().map(&mut next_to).collect()
+}
+
+/// The list with times of task i at a bound or next to it, and of other lengths, with a penalty each; and the list with
+/// penalties at a bound or next to it.
+pub fn times_at_bounds(list: &[Record], i: usize) -> Vec<(Vec<Record>, u32)> {
+    let Record { c, t, d, .. } = list[i];
+    let with = |c: u32, t: u32, d: u32| {
+        let mut changed = list.to_vec();
+        changed[i] = Record { c, t, d, ..list[i] };
+        changed
+    };
+    let mut lists = vec![with(c, t, t), with(c, t, t + 1), with(c, 999_999, 1_000_000), with(c, 1_000_000, 999_999)];
+    for x in [0, 1, 1_000_000, 1_000_001, u32::MAX] {
+        lists.extend([with(x, t, d), with(c, x, d), with(c, t, x), with(c, x, x), with(x, x, x)]);
+    }
+    for length in [0, 1, list.len() - 1, list.len() + 1, 8, 9] {
+        lists.push(list.iter().cycle().take(length).copied().collect());
+    }
+    let penalties = [0, 1, 999, 1000, 1001, u32::MAX].map(|penalty| (list.to_vec(), penalty));
+    lists.into_iter().map(|list| (list, 1)).chain(penalties).collect()
+}
+
+/// A task of one block without references.
+pub fn empty_task() -> Task {
+    vec![block(&[], &[])]
+}
+
+/// Times for eight tasks without references: ones for which many numbers lie between C and R or are tried in vain, ones that ask for
+/// more than there is, and the longest.
+pub fn slow_times() -> Vec<Vec<Record>> {
+    let list = |times: &[(u32, u32)]| times.iter().map(|&(c, t)| Record { c, t, d: t, r: 7, late: true }).collect();
+    let one = (1, 1_000_000);
+    let longest = (1_000_000, 1_000_000);
+    vec![
+        list(&[(1, 1), one, one, one, one, one, one, one]),
+        list(&[(999_999, 1_000_000), one, one, one, one, one, one, one]),
+        list(&[(2, 4), (2, 6), (2, 14), (2, 86), (2, 3625), (1, 999_512), one, one]),
+        list(&[(2, 4), (2, 6), (2, 14), (2, 86), (2, 3653), (3, 1_000_000), (1, 999_992), one]),
+        list(&[(1, 2), (1, 3), (1, 7), (1, 43), (1, 1807), one, one, one]),
+        list(&[longest; 8]),
+    ]
 }

@@ -1,4 +1,4 @@
-//! Document 01 with Points 1 to 3 and 5 to 7 of document 02 once more, in plain Rust: by paths, and with sets of rows. Written from
+//! Document 01 with Points 1 to 3 and 5 to 8 of document 02 once more, in plain Rust: by paths, and with sets of rows. Written from
 //! the documents alone, to compare with.
 use std::collections::BTreeSet;
 
@@ -686,4 +686,75 @@ pub fn microseconds(number: u32, penalty: u32, clock: u32) -> Result<(u32, u32),
     let product = u64::from(number) * u64::from(penalty) * 1000;
     let whole = product / u64::from(clock);
     Ok((whole as u32, (product - whole * u64::from(clock)) as u32))
+}
+
+/// The times of a task: its execution time, period and deadline, and what is answered: its response time, and whether it is late.
+#[derive(Clone, Copy, Debug, PartialEq)]
+pub struct Record {
+    pub c: u32,
+    pub t: u32,
+    pub d: u32,
+    pub r: u32,
+    pub late: bool,
+}
+
+/// The number of tasks of a file, and its pair numbers.
+pub struct Tabled {
+    tasks: usize,
+    numbers: [u16; 64],
+}
+
+pub fn tabled(file: &[u8]) -> Result<Tabled, Refusal> {
+    let mut numbers = [0; 64];
+    table(file, AREA, &mut numbers)?;
+    Ok(Tabled { tasks: read(file)?.tasks.len(), numbers })
+}
+
+/// Check 21 passes.
+fn right_times(list: &[Record], tasks: usize, penalty: u32) -> bool {
+    let right = |time: u32| (1..=1_000_000).contains(&time);
+    let right_record = |record: &Record| right(record.c) && right(record.t) && right(record.d) && record.d <= record.t;
+    list.len() == tasks && list.iter().all(right_record) && penalty <= 1000
+}
+
+/// The response time of the last of these tasks, where `costs` are those of one release of each other task: each number up to
+/// the deadline is tried. Before the number r there are the releases at 0, at the period, at twice the period and so on.
+fn response(list: &[Record], costs: &[u64]) -> Option<u32> {
+    let (task, higher) = list.split_last()?;
+    let mut asked = u64::from(task.c);
+    for r in 1..=task.d {
+        let released = higher.iter().zip(costs).filter(|(other, _)| (r - 1) % other.t == 0);
+        asked += released.map(|(_, cost)| cost).sum::<u64>();
+        if asked == u64::from(r) {
+            return Some(r);
+        }
+        // what is asked for never falls
+        if asked > u64::from(task.d) {
+            return None;
+        }
+    }
+    None
+}
+
+/// Response times: sets R and the late marks.
+pub fn response_times(
+    tabled: &Result<Tabled, Refusal>, area_length: usize, list: &mut [Record], penalty: u32,
+) -> Result<(), Refusal> {
+    if area_length != AREA {
+        return Err((1, 255));
+    }
+    let Tabled { tasks, numbers } = tabled.as_ref().map_err(|&refusal| refusal)?;
+    if !right_times(list, *tasks, penalty) {
+        return Err((21, 255));
+    }
+    for i in 0..list.len() {
+        let cost = |j: usize| {
+            let pairs: u64 = (j + 1..=i).map(|h| u64::from(numbers[8 * h + j])).sum();
+            u64::from(list[j].c) + u64::from(penalty) * pairs
+        };
+        let found = response(&list[..=i], &(0..i).map(cost).collect::<Vec<_>>());
+        list[i].r = found.unwrap_or(0);
+        list[i].late = found.is_none();
+    }
+    Ok(())
 }

@@ -2,12 +2,13 @@
 mod generate;
 mod independent;
 
-use crpd::{calls, Head, Misses, Refusal, Time};
+use crpd::{calls, Head, Misses, Refusal, Time, Times};
 use generate::{
-    changed_sheet, crowded, damaged, damaged_nested, damaged_sheet, longest, loop_sheet, loops, made, masked_nested,
-    masked_sheet, nested, nested_loop_sheet, sheet, tower, Made, Nested, Nesting, Random, DAMAGES, NESTED_DAMAGES,
+    changed_sheet, crowded, damaged, damaged_nested, damaged_sheet, deadlines, empty_task, longest, loop_sheet, loops, made,
+    masked_nested, masked_sheet, nested, nested_loop_sheet, penalty, sheet, slow_times, times, times_at_bounds, tower, Made,
+    Nested, Nesting, Random, DAMAGES, NESTED_DAMAGES,
 };
-use independent::{Analysed, Block, Cost, AREA, COSTLIEST_SHEET};
+use independent::{Analysed, Block, Cost, Record, Tabled, AREA, COSTLIEST_SHEET};
 use std::collections::{BTreeMap, BTreeSet};
 use std::fmt::Debug;
 
@@ -53,7 +54,7 @@ impl Report {
         println!("cases by the check that was answered (0: done)");
         for (call, checks) in &self.cases {
             let counts: Vec<String> = checks.iter().map(|(check, count)| format!("{check}: {count}")).collect();
-            println!("{call:18} {:7}   {}", checks.values().sum::<usize>(), counts.join(", "));
+            println!("{call:19} {:7}   {}", checks.values().sum::<usize>(), counts.join(", "));
         }
         let all: usize = self.cases.values().flat_map(BTreeMap::values).sum();
         match &self.smallest {
@@ -238,6 +239,7 @@ fn compare_lengths(report: &mut Report, file: &[u8]) {
         compare_table(report, file, AREA, 64, places);
     }
     compare_run_lengths(report, file);
+    compare_times_lengths(report, file);
 }
 
 /// Rows of an area that States left, and of areas with counts of any kind.
@@ -636,6 +638,163 @@ fn compare_run_lengths(report: &mut Report, file: &[u8]) {
     }
 }
 
+/// What the independent implementation has of the table of a file.
+type Tabling = Result<Tabled, independent::Refusal>;
+
+/// A call for response times: the list of times, the penalty, and the lengths of the work area and of `named`.
+#[derive(Clone, Debug)]
+struct AskedTimes {
+    list: Vec<Record>,
+    penalty: u32,
+    area: usize,
+    places: usize,
+}
+
+impl AskedTimes {
+    /// With lists of the right length.
+    fn of(list: Vec<Record>, penalty: u32) -> AskedTimes {
+        AskedTimes { list, penalty, area: AREA, places: 1 }
+    }
+}
+
+/// The records as the wrapper has them.
+fn lent(list: &[Record]) -> Vec<Times> {
+    list.iter().map(|&Record { c, t, d, r, late }| Times { c, t, d, r, late }).collect()
+}
+
+/// The work area is free afterwards, so it is compared only where `named` is refused. The list that the call left is handed
+/// back where it is done.
+fn compare_response_times(report: &mut Report, file: &[u8], tabled: &Tabling, asked: &AskedTimes) -> Option<Vec<Record>> {
+    let AskedTimes { list, penalty, area: length, places } = asked;
+    let mut area = vec![OLD_NUMBER; *length];
+    let mut found = lent(list);
+    let mut named = vec![OLD_BYTE; *places];
+    let status = calls::response_times(file, &mut area, &mut found, *penalty, &mut named);
+    let mut expected = list.clone();
+    let (mut check, mut expected_named) = (1, vec![OLD_BYTE; *places]);
+    let mut faults = vec![];
+    if *places == 1 {
+        let answer = independent::response_times(tabled, *length, &mut expected, *penalty);
+        check = told(&answer).0;
+        expected_named = vec![told(&answer).1];
+        // the wrapper gets the area with what the call left in it
+        let mut other = lent(list);
+        let wrapped = crpd::response_times(file, &mut area, &mut other, *penalty);
+        faults.push(differ("result", &[answer], &[wrapped.map_err(Refusal::numbers)]));
+        faults.push(differ("list of the wrapper", &lent(&expected), &other));
+    } else {
+        faults.push(differ("area", &vec![OLD_NUMBER; *length], &area));
+    }
+    faults.extend([
+        differ("status", &[check], &[status]),
+        differ("named", &expected_named, &named),
+        differ("list", &lent(&expected), &found),
+    ]);
+    report.add("crpd_response_times", check, file, format!("{asked:?}"), faults);
+    let left = |&Times { c, t, d, r, late }: &Times| Record { c, t, d, r, late };
+    (status == 0).then(|| found.iter().map(left).collect())
+}
+
+/// What task i and the higher tasks ask for in a time of r, by a table.
+fn asked_for(list: &[Record], table: &[u16], penalty: u32, i: usize, r: u32) -> u64 {
+    let cost = |j: usize| {
+        let pairs: u64 = (j + 1..=i).map(|h| u64::from(table[8 * h + j])).sum();
+        u64::from(list[j].c) + u64::from(penalty) * pairs
+    };
+    u64::from(list[i].c) + (0..i).map(|j| u64::from(r.div_ceil(list[j].t)) * cost(j)).sum::<u64>()
+}
+
+/// The tasks of an answered list, those in time and those that are late apart; an R meets the equation by the proved table.
+fn count_tasks(report: &mut Report, file: &[u8], list: &[Record], table: &[u16], penalty: u32) {
+    for (i, &Record { d, r, late, .. }) in list.iter().enumerate() {
+        let met = 0 < r && r <= d && asked_for(list, table, penalty, i, r) == u64::from(r);
+        let fault = (late == met || late != (r == 0)).then(|| format!("task {i}: R {r}, late {late}"));
+        let name = if late { "task late" } else { "task in time" };
+        report.add(name, 0, file, format!("{list:?}, penalty {penalty}"), vec![fault]);
+    }
+}
+
+/// The answer for a list, where there is one, and then for deadlines at R and next to it.
+fn compare_list(report: &mut Report, random: &mut Random, file: &[u8], tabled: &Tabling, table: &[u16], list: Vec<Record>) {
+    let penalty = penalty(random);
+    let Some(answered) = compare_response_times(report, file, tabled, &AskedTimes::of(list, penalty)) else {
+        return;
+    };
+    count_tasks(report, file, &answered, table, penalty);
+    let moved = deadlines(random, &answered);
+    let Some(again) = compare_response_times(report, file, tabled, &AskedTimes::of(moved, penalty)) else {
+        return;
+    };
+    for (before, after) in answered.iter().zip(&again).filter(|(before, _)| !before.late) {
+        let (name, expected) = match after.d {
+            d if d + 1 == before.r => ("deadline R - 1", (0, true)),
+            d if d == before.r => ("deadline R", (before.r, false)),
+            d if d == before.r + 1 => ("deadline R + 1", (before.r, false)),
+            _ => continue,
+        };
+        let fault = differ(name, &[expected], &[(after.r, after.late)]);
+        report.add(name, 0, file, format!("{again:?}, penalty {penalty}"), vec![fault]);
+    }
+}
+
+/// The list with each number of task i at its bounds and next to them, and of other lengths.
+fn compare_bounds(report: &mut Report, file: &[u8], tabled: &Tabling, list: &[Record], i: usize) {
+    for (list, penalty) in times_at_bounds(list, i) {
+        compare_response_times(report, file, tabled, &AskedTimes::of(list, penalty));
+    }
+}
+
+/// Response times of a file of t tasks, which may have too many states: short, middling and long times, and a few that may be
+/// out of bounds; with every eighth seed all bounds.
+fn compare_budgets(report: &mut Report, random: &mut Random, file: &[u8], t: usize, table: &[u16], seed: u64) {
+    let tabled = independent::tabled(file);
+    for longest in [20, 300, 3000, 1_000_000] {
+        let list = times(random, t, longest);
+        compare_list(report, random, file, &tabled, table, list);
+    }
+    let list = times(random, t, 40);
+    let mut others = times_at_bounds(&list, random.below(t));
+    for _ in 0..3 {
+        let (list, penalty) = others.swap_remove(random.below(others.len()));
+        compare_response_times(report, file, &tabled, &AskedTimes::of(list, penalty));
+    }
+    // 11 goes before 21
+    compare_response_times(report, file, &tabled, &AskedTimes::of(vec![], 0));
+    if seed % 8 == 0 {
+        compare_bounds(report, file, &tabled, &list_in_time(t), random.below(t));
+    }
+}
+
+/// Times of t tasks that are in time where a miss costs little.
+fn list_in_time(t: usize) -> Vec<Record> {
+    (0..t as u32).map(|i| Record { c: 1 + i, t: 500 + 100 * i, d: 400 + 100 * i, r: OLD_WIDE, late: i % 2 == 0 }).collect()
+}
+
+/// Response times with one list of a wrong length or more, and with times that are refused too.
+fn compare_times_lengths(report: &mut Report, file: &[u8]) {
+    let tabled = independent::tabled(file);
+    let t = file.get(6).map_or(0, |&t| usize::from(t).min(9));
+    for list in [list_in_time(t), vec![]] {
+        for (area, places) in [(0, 1), (5, 1), (AREA - 1, 1), (AREA + 1, 1), (5, 0), (AREA, 0), (AREA, 2), (AREA, 3)] {
+            compare_response_times(report, file, &tabled, &AskedTimes { area, places, ..AskedTimes::of(list.clone(), 1) });
+        }
+    }
+}
+
+/// Times at all bounds, and times with many numbers to try, on tasks without references.
+fn compare_time_limits(report: &mut Report, random: &mut Random) {
+    for t in [1, 2, 8] {
+        let file = Made { n: 1, tasks: vec![empty_task(); t] }.file();
+        for i in 0..t {
+            compare_bounds(report, &file, &independent::tabled(&file), &list_in_time(t), i);
+        }
+    }
+    let file = Made { n: 1, tasks: vec![empty_task(); 8] }.file();
+    for list in slow_times() {
+        compare_list(report, random, &file, &independent::tabled(&file), &[0; 64], list);
+    }
+}
+
 /// Sheets with a length or a count at its limit or next to it, without and with a masked block.
 fn compare_sheet_limits(report: &mut Report) {
     for file in [loops(false).file(), loops(true).file()] {
@@ -649,7 +808,7 @@ fn compare_sheet_limits(report: &mut Report) {
     }
 }
 
-/// The examples of document 01, the same file with flags, and examples of Points 2, 3 and 5 to 7 hold of the independent
+/// The examples of document 01, the same file with flags, and examples of Points 2, 3 and 5 to 8 hold of the independent
 /// implementation.
 fn examples() {
     let e = Made { n: 2, tasks: vec![vec![block(&[0], &[0, 1])], vec![block(&[], &[2])]] }.file();
@@ -683,6 +842,7 @@ fn examples() {
     shared_examples(&e);
     point_examples(&e);
     nested_examples(&e);
+    response_examples(&e);
 }
 
 /// A block without a mask.
@@ -755,6 +915,45 @@ fn nested_examples(e: &[u8]) {
     }
 }
 
+/// The response times of a file with these times, 0 for a task that is late.
+fn responses(file: &[u8], times: &[(u32, u32, u32)], penalty: u32) -> Result<Vec<u32>, independent::Refusal> {
+    let mut list: Vec<Record> = times.iter().map(|&(c, t, d)| Record { c, t, d, r: 9, late: true }).collect();
+    independent::response_times(&independent::tabled(file), AREA, &mut list, penalty)?;
+    assert!(list.iter().all(|record| record.late == (record.r == 0)));
+    Ok(list.iter().map(|record| record.r).collect())
+}
+
+/// Response times of tasks without references, of E, of E with its tasks exchanged and of three loops; each bound; a file that
+/// is refused by 11.
+fn response_examples(e: &[u8]) {
+    let empty = Made { n: 1, tasks: vec![empty_task(), empty_task()] }.file();
+    let two = |first: (u32, u32, u32), second: (u32, u32, u32), penalty: u32| responses(&empty, &[first, second], penalty);
+    assert_eq!(two((1, 2, 2), (1, 10, 10), 0), Ok(vec![1, 2]));
+    let million = 1_000_000;
+    assert_eq!(two((million, million, million), (1, million, million), 0), Ok(vec![million, 0]));
+    assert_eq!(responses(e, &[(1, 10, 10), (5, 20, 20)], 3), Ok(vec![1, 6]));
+    let exchanged = Made { n: 2, tasks: vec![vec![block(&[], &[2])], vec![block(&[0], &[0, 1])]] }.file();
+    for (d, r) in [(20, 9), (9, 9), (8, 0)] {
+        assert_eq!(responses(&exchanged, &[(1, 10, 10), (5, 20, d)], 3), Ok(vec![1, r]));
+    }
+    let three = Made { n: 2, tasks: [vec![5, 0], vec![7, 4], vec![6, 5, 7]].map(|m| vec![block(&[0], &m)]).to_vec() }.file();
+    assert_eq!(responses(&three, &[(1, 20, 20), (2, 40, 40), (3, 100, 100)], 2), Ok(vec![1, 7, 14]));
+    let last = (1, 10, 10);
+    for out in [0, million + 1, u32::MAX] {
+        for refused in [two((out, 2, 2), last, 0), two((1, out, 2), last, 0), two((1, 2, out), last, 0), two((1, out, out), last, 0)] {
+            assert_eq!(refused, Err((21, 255)));
+        }
+    }
+    assert_eq!(two((1, 2, 3), last, 0), Err((21, 255)));
+    assert_eq!(two((1, 2, 2), last, 1000), Ok(vec![1, 2]));
+    assert_eq!(two((1, 2, 2), last, 1001), Err((21, 255)));
+    for length in [0, 1, 3, 9] {
+        assert_eq!(responses(&empty, &vec![last; length], 0), Err((21, 255)));
+    }
+    let crowded = crowded().pop().map_or(vec![], |made| made.file());
+    assert_eq!(responses(&crowded, &[], 0), Err((11, 0)));
+}
+
 /// A valid file: every call with lists of the right length, every task and some that aren't there.
 fn compare_made(report: &mut Report, random: &mut Random, made: &Made, seed: u64) {
     let file = made.file();
@@ -779,6 +978,7 @@ fn compare_made(report: &mut Report, random: &mut Random, made: &Made, seed: u64
     let nesting = random.pick(&Nesting::ALL);
     compare_nesting(report, random, made, nesting, &table);
     compare_pairs(report, random, &file, made.tasks.len());
+    compare_budgets(report, random, &file, made.tasks.len(), &table, seed);
     compare_writing(report, random, made);
     if seed % 8 == 0 {
         compare_lengths(report, &file);
@@ -797,6 +997,8 @@ fn compare_damaged(report: &mut Report, random: &mut Random, made: &Made, seed: 
         compare_nested(report, &broken, &nested(random, &made.tasks, Nesting::Mixed).numbers(), 2);
         let asked = Asked::of(random.below(made.tasks.len() + 1), random.below(made.tasks.len() + 1));
         compare_costliest_run(report, &broken, &independent::analyse(&broken), asked);
+        let list = times(random, made.tasks.len(), 300);
+        compare_response_times(report, &broken, &independent::tabled(&broken), &AskedTimes::of(list, 1));
         compare_broken_bodies(report, made, &broken);
         if seed % 64 == 0 {
             compare_lengths(report, &broken);
@@ -817,8 +1019,12 @@ fn main() {
     compare_nested_limits(&mut report);
     compare_towers(&mut report);
     compare_times(&mut report);
+    compare_time_limits(&mut report, &mut Random::new(0));
     for crowded in crowded() {
-        compare_pairs(&mut report, &mut Random::new(0), &crowded.file(), crowded.tasks.len());
+        let file = crowded.file();
+        let table = compare_table(&mut report, &file, AREA, 64, 1);
+        compare_pairs(&mut report, &mut Random::new(0), &file, crowded.tasks.len());
+        compare_budgets(&mut report, &mut Random::new(0), &file, crowded.tasks.len(), &table, 1);
     }
     for seed in 0..files {
         let mut random = Random::new(seed);

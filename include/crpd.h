@@ -7,7 +7,7 @@
  * call writes to one of them. The pointer of a list of 0 elements is never followed and may be null, as that of an
  * empty std::vector may be. Any other must not be null.
  *
- * Answers. Each call answers 0 when it is done, or the number of the check that fails first, 1 to 20 but never 10
+ * Answers. Each call answers 0 when it is done, or the number of the check that fails first, 1 to 21 but never 10
  * (below). What else it has to say stands in its last list (answer, named or found). A last list of another length than
  * the one named here is refused with 1 before anything else, and then no list is written, the last one too: a caller
  * that prints a task after that prints what the list held before. After every other answer each place of the last list
@@ -15,9 +15,10 @@
  *
  * Threads. The calls keep nothing between them, take nothing from the heap and call nothing outside the archive but
  * memcpy and memset, so they may run in several threads at once, on lists that no other thread writes meanwhile.
- * Measured on small and large files alike, crpd_costliest_run takes about 51 KiB of stack, crpd_table about 22 KiB and
- * each other call about 9 KiB at most, but for crpd_nested: about 7 KiB, and 0.75 KiB more for each run that comes before
- * or around another in its lists, 91 KiB in all for the deepest run at the end of the longest lists. No proof bounds it.
+ * Measured on small and large files alike, crpd_costliest_run takes about 51 KiB of stack, crpd_table about 23 KiB,
+ * crpd_response_times about 24 KiB and each other call about 9 KiB at most, but for crpd_nested: about 7 KiB, and 0.75 KiB
+ * more for each run that comes before or around another in its lists, 91 KiB in all for the deepest run at the end of the
+ * longest lists. No proof bounds it.
  */
 #ifndef CRPD_H
 #define CRPD_H
@@ -62,6 +63,8 @@ extern "C" {
  *  19  the sheet to write is shorter than 2,311 numbers
  *  20  in a nested sheet a count is above 0 at depth 7, or a task occurs
  *      inside itself
+ *  21  the list of times has not one record a task, a time is outside 1 to
+ *      1,000,000, a deadline over its period, or the penalty over 1,000
  */
 enum crpd_status {
     CRPD_DONE = 0,
@@ -83,7 +86,8 @@ enum crpd_status {
     CRPD_CHECK_MICROSECONDS = 17,
     CRPD_CHECK_TWO_TASKS = 18,
     CRPD_CHECK_SHEET_LENGTH = 19,
-    CRPD_CHECK_NESTED = 20
+    CRPD_CHECK_NESTED = 20,
+    CRPD_CHECK_TIMES = 21
 };
 
 #define CRPD_NO_TASK 255  /* where a check names no task, and where a call is done */
@@ -124,10 +128,23 @@ enum crpd_status {
 #define CRPD_PENALTY 1000   /* the largest miss penalty, in cycles; the smallest is 1 */
 #define CRPD_CLOCK 1000000  /* the fastest clock, in kHz; the slowest is 1 */
 
+/* Response times, in any unit, the same for all. */
+#define CRPD_TIME 1000000           /* the longest execution time, period and deadline; the shortest is 1 */
+#define CRPD_RESPONSE_PENALTY 1000  /* the largest miss penalty; the smallest is 0 */
+
+/* The times of a task. */
+struct crpd_times {
+    uint32_t c;    /* the execution time C, 1 to CRPD_TIME */
+    uint32_t t;    /* the period T, 1 to CRPD_TIME */
+    uint32_t d;    /* the deadline D, 1 to T */
+    uint32_t r;    /* the response time R, 1 to D, or 0 if the task is late */
+    uint8_t late;  /* 1 if the task is late, else 0 */
+};
+
 /* Lengths of the last list of each call. */
 #define CRPD_READ_LENGTH 3           /* answer of crpd_read */
 #define CRPD_PLACE_LENGTH 2          /* found of crpd_body and crpd_row */
-#define CRPD_NAMED_LENGTH 1          /* named of crpd_states and crpd_table */
+#define CRPD_NAMED_LENGTH 1          /* named of crpd_states, crpd_table and crpd_response_times */
 #define CRPD_REPLAY_LENGTH 4         /* answer of crpd_replay */
 #define CRPD_WRITE_LENGTH 2          /* answer of crpd_write */
 #define CRPD_MICROSECONDS_LENGTH 3   /* answer of crpd_microseconds */
@@ -312,6 +329,29 @@ uint8_t crpd_costliest_run(
 uint8_t crpd_nested(
     const uint8_t *file, size_t file_length, const uint16_t *sheet, size_t sheet_length,
     uint64_t *answer, size_t answer_length);
+
+/*
+ * Response times: R of each task of a file, whose tasks come highest priority first: task 0 is the highest. R of task i is
+ * the least positive number with
+ *   R = C + the sum over the tasks j below i of ceil(R / Tj) * (Cj + penalty * g)
+ * where C is the execution time of i, Cj that of j and Tj the period of j, ceil rounds up to a whole number, and g is the
+ * sum of the pair numbers of the tasks j + 1 to i, each preempted by j, as crpd_table gives them. Nothing more is said of
+ * R: that it bounds the times of a real schedule is not claimed. Checks 1 to 9, 11 and 21.
+ * file: its bytes, any number of them.
+ * area: CRPD_AREA_LENGTH places to work in, which may hold anything before. Where named is of the right length they
+ * may hold anything afterwards, refused or not.
+ * list: any number of records; check 21 asks for one a task, in the order of the file. r and late may hold anything before,
+ * late any byte. c, t and d keep their contents, and after a refusal all of the list does. When the call is done:
+ *   r: R, or 0 if there is none up to d
+ *   late: 0, or 1 if there is no R up to d
+ * The three bytes after late may hold anything afterwards.
+ * penalty: what one miss costs, in the unit of the times, 0 to CRPD_RESPONSE_PENALTY.
+ * named: CRPD_NAMED_LENGTH place:
+ *   0: the task that the check names, or CRPD_NO_TASK
+ */
+uint8_t crpd_response_times(
+    const uint8_t *file, size_t file_length, uint16_t *area, size_t area_length,
+    struct crpd_times *list, size_t list_length, uint32_t penalty, uint8_t *named, size_t named_length);
 
 #ifdef __cplusplus
 }

@@ -15,7 +15,7 @@ pub const NOTHING: u16 = 65535;
 /// In the answers of the calls for C: no task.
 const NO_TASK: u8 = 255;
 
-/// The check that fails first, 1 to 20 but never 10, and the task that it names.
+/// The check that fails first, 1 to 21 but never 10, and the task that it names.
 #[derive(Clone, Copy, Debug, PartialEq, Eq)]
 pub struct Refusal {
     pub check: u8,
@@ -66,6 +66,22 @@ pub struct Misses {
 pub struct Time {
     pub whole: u32,
     pub remainder: u32,
+}
+
+/// The times of a task, in the layout of C's `struct crpd_times`.
+#[repr(C)]
+#[derive(Clone, Copy, Debug, PartialEq, Eq)]
+pub struct Times {
+    /// The execution time, 1 to 1,000,000.
+    pub c: u32,
+    /// The period, 1 to 1,000,000.
+    pub t: u32,
+    /// The deadline, 1 to the period.
+    pub d: u32,
+    /// The response time, which the call sets: 1 to the deadline, or 0 if the task is late.
+    pub r: u32,
+    /// Whether the task is late, which the call sets; it writes 0 or 1.
+    pub late: bool,
 }
 
 /// `done` where the status is 0, else the refusal.
@@ -174,9 +190,21 @@ pub fn nested(file: &[u8], sheet: &[u16]) -> Result<u64, Refusal> {
     result(status, task as u8, total)
 }
 
+/// Response times of a file whose tasks come highest priority first: checks 1 to 9, 11 and 21. The list has one record a
+/// task, and gets R, the least number that meets the equation of include/crpd.h, and the late marks; after a refusal it
+/// keeps its contents. The penalty is 0 to 1,000. What the area holds afterwards is free.
+#[inline]
+pub fn response_times(file: &[u8], area: &mut [u16], list: &mut [Times], penalty: u32) -> Result<(), Refusal> {
+    let mut named = [0; 1];
+    let status = calls::response_times(file, area, list, penalty, &mut named);
+    result(status, named[0], ())
+}
+
 /// The calls as include/crpd.h has them: each answers its status, and puts the rest into its last list, which has a
 /// fixed length. A slice passes as a pointer and a number of elements.
 pub mod calls {
+    use super::Times;
+
     #[link(name = "crpd_c", kind = "static")]
     extern "C" {
         fn crpd_read(file: *const u8, file_length: usize, answer: *mut u8, answer_length: usize) -> u8;
@@ -210,6 +238,10 @@ pub mod calls {
         fn crpd_nested(
             file: *const u8, file_length: usize, sheet: *const u16, sheet_length: usize,
             answer: *mut u64, answer_length: usize,
+        ) -> u8;
+        fn crpd_response_times(
+            file: *const u8, file_length: usize, area: *mut u16, area_length: usize,
+            list: *mut Times, list_length: usize, penalty: u32, named: *mut u8, named_length: usize,
         ) -> u8;
     }
 
@@ -293,6 +325,18 @@ pub mod calls {
         unsafe {
             crpd_nested(
                 file.as_ptr(), file.len(), sheet.as_ptr(), sheet.len(), answer.as_mut_ptr(), answer.len(),
+            )
+        }
+    }
+
+    #[inline]
+    pub fn response_times(
+        file: &[u8], area: &mut [u16], list: &mut [Times], penalty: u32, named: &mut [u8],
+    ) -> u8 {
+        unsafe {
+            crpd_response_times(
+                file.as_ptr(), file.len(), area.as_mut_ptr(), area.len(),
+                list.as_mut_ptr(), list.len(), penalty, named.as_mut_ptr(), named.len(),
             )
         }
     }

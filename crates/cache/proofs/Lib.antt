@@ -9,3 +9,4 @@ pub mod Bits
 pub mod Masks
 pub mod Members
 pub mod Copies
+pub mod Walking

@@ -6,3 +6,4 @@ pub mod Times
 mod Sheets
 pub mod CostliestRuns
 pub mod Nested
+pub mod ResponseTimes

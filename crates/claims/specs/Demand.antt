@@ -5,20 +5,15 @@ use Prim.Native.Nat.{ℕ, _+_, _≤_, _<_}
 use lib.ListN.{length}
 use Rattle.cache.specs.References.{All}
 use Rattle.model.specs.Tasks.{Unmasked, SomeUnmasked, task}
-use Rattle.model.specs.Numbers.{PairNumber}
 use Rattle.model.specs.Runs.{DisturbedRun, OnceBy, U, D, lostHits}
 use Rattle.model.specs.Demand.{Demand3, BoundedApart}
 use Rattle.project.specs.File.{File, taskCount}
-use Rattle.project.specs.Tasks.{tasksOf, filePair, fileCache}
+use Rattle.project.specs.Tasks.{tasksOf, filePair, PairNumbers, fileCache}
 use Rattle.table.specs.Table.{TableEntries}
 use Rattle.sheet.specs.Sheet.{Sheet, Fits, runNumbers}
 use Rattle.replay.specs.declared.Replaying.the-variants.{Counted}
 use Rattle.replay.specs.Replay.{replayingOf}
 use Rattle.replay.specs.ReplayVerdict.{Replayed}
-
--- "Its pair numbers are those defined above": over the rows that paths make, at the points of Point 6
-abbrev pub NumbersOfPaths : File → Type 0
-NumbersOfPaths s = (i j : ℕ) → PairNumber (fileCache s) (task (tasksOf s) i) (task (tasksOf s) j) (filePair s i j)
 
 -- the sheet of a run, and the run's U, D and lost hits in the file's cache
 abbrev pub sheetOf : (s : File) → DisturbedRun (tasksOf s) → Sheet
@@ -66,10 +61,10 @@ pub record RunsApart (s : File) : Type 0 where
 
 -- demand 3 whole, over an accepted file: for every disturbed run the lost hits are at most the sum of the pair numbers and D at most U + that sum, and
 -- for every two different tasks, the first with an unmasked block, a run with exactly one preemption whose lost hits are its number (`Demand3`); the
--- numbers are those over paths, the table's entries are these numbers, and the replay's answers these U, D and lost hits
+-- numbers are those over paths ("Its pair numbers are those defined above"), the table's entries are these numbers, and the replay's answers these U, D and lost hits
 pub record Demand3Whole (s : File) : Type 0 where
   pub runs : Demand3 (fileCache s) (tasksOf s)
-  pub numbers : NumbersOfPaths s
+  pub numbers : PairNumbers s (filePair s)
   pub entries : TableEntries 16 s
   pub answers : ReplayAnswers s
   pub described : SheetsDescribe s

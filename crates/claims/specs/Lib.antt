@@ -5,3 +5,4 @@ pub mod OldTables
 pub mod Times
 pub mod CostliestRuns
 pub mod Nested
+pub mod ResponseTimes

@@ -5,11 +5,12 @@ use Prim.Native.Nat.{ℕ, _<_}
 use lib.ListN.{getD}
 use Rattle.project.specs.declared.answers.Filling.the-variants.{Filled}
 use Rattle.project.specs.File.{File}
+use Rattle.project.specs.Checks.{Outside}
 use Rattle.project.specs.Tasks.{filePair}
 use Rattle.rows.specs.Rows.{Area}
 use Rattle.table.specs.Table.{tableAnswer, tableAfter}
 use Rattle.microseconds.specs.declared.Timing.the-variants.{Timed}
-use Rattle.microseconds.specs.Microseconds.{largestPenalty, largestClock, Outside, ExactTime, timingOf}
+use Rattle.microseconds.specs.Microseconds.{largestPenalty, largestClock, ExactTime, timingOf}
 
 -- with every penalty and clock within their bounds the number is answered, by its exact time
 abbrev pub Answered : ℕ → Type 0

@@ -8,3 +8,4 @@ pub mod Nested
 pub mod CostliestRun
 pub mod Microseconds
 pub mod Write
+pub mod ResponseTimes

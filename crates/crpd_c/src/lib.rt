@@ -5,6 +5,7 @@ pub mod crpd_microseconds;
 pub mod crpd_nested;
 pub mod crpd_read;
 pub mod crpd_replay;
+pub mod crpd_response_times;
 pub mod crpd_row;
 pub mod crpd_states;
 pub mod crpd_table;

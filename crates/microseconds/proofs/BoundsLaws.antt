@@ -11,7 +11,8 @@ use Rattle.project.specs.declared.answers.Check.the-variants.{Passed}
 use Rattle.project.specs.declared.answers.Check.the-variants.{Refused as Failed}
 use Rattle.project.specs.Checklist.{noTask}
 use Rattle.project.proofs.Accepted.{unless-passed, or-false-left, or-false-right}
-use Rattle.microseconds.specs.Microseconds.{largestNumber, largestPenalty, largestClock, outside, test17, microsecondsCheck, whole, remainder, pickTiming, timingOf}
+use Rattle.project.specs.Reading.{outside}
+use Rattle.microseconds.specs.Microseconds.{largestNumber, largestPenalty, largestClock, test17, microsecondsCheck, whole, remainder, pickTiming, timingOf}
 
 -- what check 17 answers, by its test
 pub at-17 : (number penalty clock : ℕ) → test17 number penalty clock ≡ true → microsecondsCheck number penalty clock ≡ Failed 17 255

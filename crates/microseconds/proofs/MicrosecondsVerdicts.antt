@@ -13,9 +13,10 @@ use Rattle.project.specs.declared.answers.Check.the-variants.{Refused as Failed
 use Rattle.project.specs.Checklist.{numbers, Verdict, Agreeing}
 use Rattle.project.proofs.Checklists.{verdict-exact, verdict-unique}
 use Rattle.project.proofs.Verdicts.{outside-exact, either-exact}
+use Rattle.project.specs.Reading.{outside}
 use Rattle.microseconds.specs.declared.Timing.{Timing}
 use Rattle.microseconds.specs.declared.Timing.the-variants.{Timed, Refused}
-use Rattle.microseconds.specs.Microseconds.{largestNumber, largestPenalty, largestClock, outside, Fault17, test17, microsecondsChecks, microsecondsCheck, whole, remainder, pickTiming, timingOf, MicrosecondsVerdict}
+use Rattle.microseconds.specs.Microseconds.{largestNumber, largestPenalty, largestClock, Fault17, test17, microsecondsChecks, microsecondsCheck, whole, remainder, pickTiming, timingOf, MicrosecondsVerdict}
 use Rattle.microseconds.proofs.Times.{exact-time, exact-time-only}
 use Rattle.microseconds.proofs.BoundsLaws.{within, answer-by}
 

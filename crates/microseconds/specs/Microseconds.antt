@@ -8,6 +8,8 @@ use lib.Dec.{ltb}
 use Rattle.project.specs.declared.answers.Check.{Check}
 use Rattle.project.specs.declared.answers.Check.the-variants.{Passed}
 use Rattle.project.specs.declared.answers.Check.the-variants.{Refused as Failed}
+use Rattle.project.specs.Checks.{Outside}
+use Rattle.project.specs.Reading.{outside}
 use Rattle.project.specs.Checklist.{Entry, one, noTask, AllPass, FirstFault, verdictOf}
 use Rattle.microseconds.specs.declared.Timing.{Timing}
 use Rattle.microseconds.specs.declared.Timing.the-variants.{Timed, Refused}
@@ -26,10 +28,6 @@ largestClock = 1000000
 
 -- ---- in the document's words
 
--- "outside its bounds", which begin at 1
-abbrev pub Outside : ℕ → ℕ → Type 0
-Outside largest x = (x < 1) ⊎ (largest < x)
-
 -- "17, a penalty or clock outside its bounds, or a number over 16"
 abbrev pub Fault17 : ℕ → ℕ → ℕ → Type 0
 Fault17 number penalty clock = Outside largestPenalty penalty ⊎ Outside largestClock clock ⊎ (largestNumber < number)
@@ -40,9 +38,6 @@ pub record ExactTime (number penalty clock q r : ℕ) : Type 0 where
   pub below : r < clock
 
 -- ---- computed
-
-abbrev pub outside : ℕ → ℕ → Bool
-outside largest x = ltb x 1 || ltb largest x
 
 abbrev pub test17 : ℕ → ℕ → ℕ → Bool
 test17 number penalty clock = outside largestPenalty penalty || (outside largestClock clock || ltb largestNumber number)

@@ -1,6 +1,7 @@
 // Microseconds: the time that the misses of a pair number take, exactly.
 ghost use mathlib.Core.Path.{_≡_};
-ghost use Rattle.microseconds.specs.Microseconds.{outside, microsecondsCheck, timingOf};
+ghost use Rattle.project.specs.Reading.{outside};
+ghost use Rattle.microseconds.specs.Microseconds.{microsecondsCheck, timingOf};
 use project::answers::Check;
 use project::answers::refused;
 

@@ -21,17 +21,21 @@ Fault2 e s = (length s < 8) ⊎ (longest e < length s)
 abbrev pub Fault3 : File → Type 0
 Fault3 s = take 4 s ≢ mark
 
+-- outside bounds that begin at 1
+abbrev pub Outside : ℕ → ℕ → Type 0
+Outside largest x = (x < 1) ⊎ (largest < x)
+
 -- "edition isn't 1"; in new calls "neither" 1 nor 2: the edition k is not one of 1 to e
 abbrev pub Fault4 : ℕ → ℕ → Type 0
-Fault4 e k = (k < 1) ⊎ (e < k)
+Fault4 e k = Outside e k
 
 -- "n outside 1 to 16", and in edition 2 outside 1 to 32: in edition k
 abbrev pub Fault5 : ℕ → ℕ → Type 0
-Fault5 k n = (n < 1) ⊎ (16 * k < n)
+Fault5 k n = Outside (16 * k) n
 
 -- "t outside 1 to 8"
 abbrev pub CountFault : ℕ → Type 0
-CountFault t = (t < 1) ⊎ (8 < t)
+CountFault t = Outside 8 t
 
 -- "four zero bytes after byte 7 (others, or their absence, are check 6)"
 abbrev pub ReserveFault : File → Type 0

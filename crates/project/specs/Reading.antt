@@ -27,14 +27,18 @@ test2 e s = ltb (length s) 8 || ltb (longest e) (length s)
 abbrev pub test3 : File → Bool
 test3 s = not (sameList (take 4 s) mark)
 
+-- a number is outside bounds that begin at 1
+abbrev pub outside : ℕ → ℕ → Bool
+outside largest x = ltb x 1 || ltb largest x
+
 abbrev pub test4 : ℕ → ℕ → Bool
-test4 e k = ltb k 1 || ltb e k
+test4 e k = outside e k
 
 abbrev pub test5 : ℕ → ℕ → Bool
-test5 k n = ltb n 1 || ltb (16 * k) n
+test5 k n = outside (16 * k) n
 
 abbrev pub countTest : ℕ → Bool
-countTest t = ltb t 1 || ltb 8 t
+countTest t = outside 8 t
 
 abbrev pub reserveTest : File → Bool
 reserveTest s = not (sameList (take (reserve (edition s)) (drop 8 s)) (replicate (reserve (edition s)) 0))

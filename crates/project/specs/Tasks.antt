@@ -5,6 +5,7 @@ use Rattle.cache.specs.Cache.{Cache}
 use Rattle.cache.specs.Shape.{shaped}
 use Rattle.cache.specs.declared.blocks.CacheShape.{CacheShape}
 use Rattle.model.specs.Tasks.{Task, task}
+use Rattle.model.specs.Numbers.{PairNumber}
 use Rattle.model.specs.Computed.{pairNumber}
 use Rattle.body.specs.Layout.{Body}
 use Rattle.body.specs.Decode.{decode, taskOf}
@@ -31,3 +32,7 @@ fileCache s = fileCacheIn (cacheBlocks s) s
 -- "Pair number of task i preempted by task j", in an accepted file
 abbrev pub filePair : File → ℕ → ℕ → ℕ
 filePair s i j = pairNumber (fileCache s) (task (tasksOf s) i) (task (tasksOf s) j)
+
+-- the same over paths: `pair i j` is the pair number of every two tasks
+abbrev pub PairNumbers : File → (ℕ → ℕ → ℕ) → Type 0
+PairNumbers s pair = (i j : ℕ) → PairNumber (fileCache s) (task (tasksOf s) i) (task (tasksOf s) j) (pair i j)

@@ -1,8 +1,8 @@
 -- A local `ReplayCache` is lent by `&mut` for a lifetime, and is back at the last value once that is over.
 -- The words for it that walks of the lent cache share.
-use Rattle.runs.proofs.Walking.{_≡_, ℕ, List, [], _∷_, URA, fullShare, Lifetime, Val, hasTy, WT, Holds, ent, sep, ex, guard, Lft, GName, fat, fsep, fdead, flent, fres}
-use Rattle.runs.proofs.Walking.{Heap, Atoms, sem, Given, ‵, later, _$_, _∵_, !, qed, move, keep, use1, use3, fsplit, fjoin, fpick, fpack, await, updating, at-once}
-use Rattle.runs.proofs.Walking.{check, done, by, Body, RattleType, Is, shows, mem, cellAt, partOf, RefT, LentRef, lends-ref, ref-back, owned, peeks, spelt}
+use Rattle.cache.proofs.Walking.{_≡_, ℕ, List, [], _∷_, URA, fullShare, Lifetime, Val, hasTy, WT, Holds, ent, sep, ex, guard, Lft, GName, fat, fsep, fdead, flent, fres}
+use Rattle.cache.proofs.Walking.{Heap, Atoms, sem, Given, ‵, later, _$_, _∵_, !, qed, move, keep, use1, use3, fsplit, fjoin, fpick, fpack, await, updating, at-once}
+use Rattle.cache.proofs.Walking.{check, done, by, Body, RattleType, Is, shows, mem, cellAt, partOf, RefT, LentRef, lends-ref, ref-back, owned, peeks, spelt}
 use denote.Struct.Laws as LL
 use mathlib.Core.Bool.{Bool}
 use Rattle.cache.specs.Cache.{hits}

@@ -1,10 +1,10 @@
 -- The row of a lent `ReplayCache` is lent by itself: its cell is taken out of the cache's, lent for a lifetime, and put back at its last value.
 use mathlib.Core.List.{map}
 use types.Kit.{Go}
-use Rattle.runs.proofs.Walking.{_≡_, refl, ℕ, _+_, List, [], _∷_, URA, fullShare, Lifetime, Ty, Val, vint, vstruct, ofList, w16, w32, tyInt, tyArray, ent, sep, ex, guard}
-use Rattle.runs.proofs.Walking.{all, wand, Lft, GName, fat, fsep, fdead, flent, fres, SProp, Heap, Atoms, sem, Given, ‵, later, _$_, _∵_, !, qed, move, keep, use3, fsplit, fjoin}
-use Rattle.runs.proofs.Walking.{fpick, fpack, await, updating, at-once, check, done, by, Body, RattleType, Is, shows, mem, cellAt, partOf, rawTy, RefT, LentRef, lends-ref}
-use Rattle.runs.proofs.Walking.{ref-back, owned, peeks, spelt, whole, sub, Array, array-vals, array-tells, array-makes, uint-vals, uint-tells, uint-makes, u16, u32}
+use Rattle.cache.proofs.Walking.{_≡_, refl, ℕ, _+_, List, [], _∷_, URA, fullShare, Lifetime, Ty, Val, vint, vstruct, ofList, w16, w32, tyInt, tyArray, ent, sep, ex, guard}
+use Rattle.cache.proofs.Walking.{all, wand, Lft, GName, fat, fsep, fdead, flent, fres, SProp, Heap, Atoms, sem, Given, ‵, later, _$_, _∵_, !, qed, move, keep, use3, fsplit, fjoin}
+use Rattle.cache.proofs.Walking.{fpick, fpack, await, updating, at-once, check, done, by, Body, RattleType, Is, shows, mem, cellAt, partOf, rawTy, RefT, LentRef, lends-ref}
+use Rattle.cache.proofs.Walking.{ref-back, owned, peeks, spelt, whole, sub, Array, array-vals, array-tells, array-makes, uint-vals, uint-tells, uint-makes, u16, u32}
 use Rattle.runs.specs.declared.replay_cache.ReplayCache.{ReplayCache}
 use denote.Struct.Laws as LL
 use Rattle.runs.proofs.replay_cache.ReplayCache as T

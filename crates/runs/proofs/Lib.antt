@@ -4,7 +4,6 @@ pub mod Segments
 pub mod PathCounts
 pub mod CacheLaws
 pub mod RunLaws
-pub mod Walking
 pub mod LentCache
 pub mod LentRow
 pub mod ReferCaller

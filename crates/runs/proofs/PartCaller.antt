@@ -1,8 +1,8 @@
 -- What callers of `part_on` have, in their walks by hand: a slice and a point of a path as machine values, what the function asks, and what it gives.
-use Rattle.runs.proofs.Walking.{_≡_, refl, ap, subst, ℕ, _≤_, _<_, _^_, [], _∷_, List, Holds, hasTy, WT, URA, named, w64, Val, vint, SProp, ent, sep, ex, guard, id⊢, Lft, Share, Fml, ftrue, flft, Memory, Routine, Heap}
-use Rattle.runs.proofs.Walking.{Atoms, sem, Fun, fact, Given, ‵, raw, _⊛_, ⋆, some, later, _$_, _∵_, !, qed, move, keep, drop, use1, rewrite, split, join, pick, fjoin, frame, await, updating}
-use Rattle.runs.proofs.Walking.{at-once, show, check, done, Is, shows, uint-makes, u8, u16, usize, RefT, sliceVal, ShrSlice, shr-slice-tells, only, owned, peeks, heard, nothing, Contract, tripleOf}
-use Rattle.runs.proofs.Walking.{says, ensured, lasts}
+use Rattle.cache.proofs.Walking.{_≡_, refl, ap, subst, ℕ, _≤_, _<_, _^_, [], _∷_, List, Holds, hasTy, WT, URA, named, w64, Val, vint, SProp, ent, sep, ex, guard, id⊢, Lft, Share, Fml, ftrue, flft, Memory, Routine, Heap}
+use Rattle.cache.proofs.Walking.{Atoms, sem, Fun, fact, Given, ‵, raw, _⊛_, ⋆, some, later, _$_, _∵_, !, qed, move, keep, drop, use1, rewrite, split, join, pick, fjoin, frame, await, updating}
+use Rattle.cache.proofs.Walking.{at-once, show, check, done, Is, shows, uint-makes, u8, u16, usize, RefT, sliceVal, ShrSlice, shr-slice-tells, only, owned, peeks, heard, nothing, Contract, tripleOf}
+use Rattle.cache.proofs.Walking.{says, ensured, lasts}
 use lib.ListN.{length}
 use denote.Struct.Laws as LL
 use Rattle.cache.specs.References.{numbers}

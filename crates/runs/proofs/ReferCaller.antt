@@ -1,9 +1,9 @@
 -- What callers of `refer` and of `reference_at` have, in their walks by hand: what each asks, and what it gives.
 use mathlib.Core.Bool.{Bool}
-use Rattle.runs.proofs.Walking.{_≡_, refl, sym, ap, subst, _∙_, ℕ, _+_, _*_, _/_, _<_, _^_, [], _∷_, List, Holds, URA, fullShare, named, w32, w64, tyInt, tyBool, Val, vint, vbool, vptr, hasTy, WT, SProp}
-use Rattle.runs.proofs.Walking.{ent, sep, ex, guard, exE, snd∗, id⊢, Lft, Share, GName, ftrue, flft, Memory, Routine, Heap, Atoms, sem, Fun, fact, Given, ‵, raw, _⊛_, some, later}
-use Rattle.runs.proofs.Walking.{_$_, _∵_, !, qed, move, keep, use1, split, join, pick, fsplit, fjoin, frame, await, updating, at-once, show, check, done, Is, shows, Boolean, uint-makes}
-use Rattle.runs.proofs.Walking.{u8, u32, usize, RefT, MutRef, sliceVal, ShrSlice, only, owned, facts, heard, nothing, Contract, tripleOf, says, ensured, lasts}
+use Rattle.cache.proofs.Walking.{_≡_, refl, sym, ap, subst, _∙_, ℕ, _+_, _*_, _/_, _<_, _^_, [], _∷_, List, Holds, URA, fullShare, named, w32, w64, tyInt, tyBool, Val, vint, vbool, vptr, hasTy, WT, SProp}
+use Rattle.cache.proofs.Walking.{ent, sep, ex, guard, exE, snd∗, id⊢, Lft, Share, GName, ftrue, flft, Memory, Routine, Heap, Atoms, sem, Fun, fact, Given, ‵, raw, _⊛_, some, later}
+use Rattle.cache.proofs.Walking.{_$_, _∵_, !, qed, move, keep, use1, split, join, pick, fsplit, fjoin, frame, await, updating, at-once, show, check, done, Is, shows, Boolean, uint-makes}
+use Rattle.cache.proofs.Walking.{u8, u32, usize, RefT, MutRef, sliceVal, ShrSlice, only, owned, facts, heard, nothing, Contract, tripleOf, says, ensured, lasts}
 use lib.ListN.{length}
 use denote.Struct.Laws as LL
 use Rattle.cache.specs.References.{numberAt}

@@ -9,7 +9,7 @@ use borrow.Author.Tests.{lt-ltb, ne-eqb}
 use Rattle.project.specs.declared.answers.Check.{Check}
 use Rattle.project.specs.declared.answers.Check.the-variants.{Passed}
 use Rattle.project.specs.declared.answers.Check.the-variants.{Refused as Failed}
-use Rattle.project.specs.declared.answers.Filling.the-variants.{Filled}
+use Rattle.project.specs.declared.answers.Filling.the-variants.{Filled, Refused}
 use Rattle.project.specs.Checklist.{noTask}
 use Rattle.project.specs.Reading.{fileCheck}
 use Rattle.project.specs.Filling.{pickFilling}
@@ -23,6 +23,10 @@ use Rattle.table.proofs.Answers.{later-parts}
 pub filled-passed : (c : Check) → pickFilling c ≡ Filled → c ≡ Passed
 filled-passed Passed e = refl
 filled-passed (Failed c a) e = let z : _≡_ {A = ℕ} 0 1 = cc in absurd (omega arith)
+
+pub refused-failed : (k : Check) {c a : ℕ} → pickFilling k ≡ Refused c a → k ≡ Failed c a
+refused-failed Passed e = let z : _≡_ {A = ℕ} 0 1 = cc in absurd (omega arith)
+refused-failed (Failed d b) e = cc
 
 -- the checks of the file pass where those of Table do
 pub passed-file : (w : ℕ) (s area table : List ℕ) → tableCheck w s area table ≡ Passed → fileCheck s ≡ Passed

@@ -6,7 +6,8 @@ use lib.Dec.{ltb}
 use borrow.Author.Needs.{needs}
 use Rattle.model.proofs.Membership.{or-left}
 use Rattle.project.proofs.Heads.{or-second}
-use Rattle.microseconds.specs.Microseconds.{largestNumber, largestPenalty, largestClock, outside}
+use Rattle.project.specs.Reading.{outside}
+use Rattle.microseconds.specs.Microseconds.{largestNumber, largestPenalty, largestClock}
 use Rattle.microseconds.proofs.BoundsLaws.{at-17, at-none}
 use Rattle.microseconds.proofs.check_bounds.Statement.{statement}
 use Rattle.microseconds.proofs.check_bounds.Tie as tie

@@ -2,19 +2,19 @@
 -- each cache is lent again to `refer` for a lifetime that is made for the call, and comes back, and `with_lost` counts by the two answers.
 -- The invariant: what is left of the references, made from here, gives what all of them give from the start. Assumes nothing.
 use mathlib.Core.Bool.{Bool, not, _&&_}
-use Rattle.runs.proofs.Walking.{ℕ, _+_, _≤_, _<_, _^_, _-_, _*_, _/_, List, [], _∷_, _≡_, refl, ap, _∙_, arith, add-one-dec, WellFounded, InvImage·wf, URA}
-use Rattle.runs.proofs.Walking.{fullShare, named, w32, tyInt, tyBool, Ty, Code, w64, Val, vptr, vint, vbool, ent, SProp, id⊢, exE, snd∗, emp, Lft, GName, Fml}
-use Rattle.runs.proofs.Walking.{fat, fres, ftrue, flft, Share, froom, fdies, Heap, Calls, Loops, WpFn, Tables, Out, Env, Wp, afterSeq, afterBlock, atReturn}
-use Rattle.runs.proofs.Walking.{Atoms, sem, Given, ‵, _⊛_, some, later, _$_, _∵_, !, qed, move, keep, use1, use3, fsplit, fjoin, await, pick, done, by, raw}
-use Rattle.runs.proofs.Walking.{split, join, frame, drop, suffices, Item, given, ⋆, runs, anyQ, atRet, Sq, use2, use0, rewrite, learn, owns, Is, shows, RefT}
-use Rattle.runs.proofs.Walking.{MutRef, ptr-vals, mut-tells, LentAgain, lends-again, comes-back, owned, only, heard, nothing, facts, Memory, Routine, Fun, fact}
-use Rattle.runs.proofs.Walking.{Boolean, bool-makes, uint-makes, uint-vals, uint-tells, u8, u32, Contract, Triple, tripleOf, Meets, says, needs, Stays, stay-ref}
-use Rattle.runs.proofs.Walking.{stay-none, walkOf, AllGo, goes-none, goes-ref, Walks, ends-at, walked, walk-meets, stay-none-slice, goes-none-slice, ensured}
-use Rattle.runs.proofs.Walking.{lasts, givenOf, tables, look, init, forget, stop, hop, from, load, of-opd, assigns, and-then, no-more, land, returns, enter}
-use Rattle.runs.proofs.Walking.{alloc1, alloc0, params1, pass1, pass0, free1, free0, store, fld, lit, addr, bin, assigns-last, first, skips, jumps, blocks}
-use Rattle.runs.proofs.Walking.{branches, exec, Below, again, loops, FmC, fmOf, WpFn-mono, plain, calls-at, onEntry, entered, cited, yes, Nat·lt-wfRel, ltb→lt}
-use Rattle.runs.proofs.Walking.{nltb→le, lit<, whole, sub, look-in, lft-new, lft-end, sliceVal, ShrSlice, slice-vals, shr-slice-tells, shr-slice-lawful}
-use Rattle.runs.proofs.Walking.{shr-slice-copy, afterTurn, tablesOf, tyAt, second}
+use Rattle.cache.proofs.Walking.{ℕ, _+_, _≤_, _<_, _^_, _-_, _*_, _/_, List, [], _∷_, _≡_, refl, ap, _∙_, arith, add-one-dec, WellFounded, InvImage·wf, URA}
+use Rattle.cache.proofs.Walking.{fullShare, named, w32, tyInt, tyBool, Ty, Code, w64, Val, vptr, vint, vbool, ent, SProp, id⊢, exE, snd∗, emp, Lft, GName, Fml}
+use Rattle.cache.proofs.Walking.{fat, fres, ftrue, flft, Share, froom, fdies, Heap, Calls, Loops, WpFn, Tables, Out, Env, Wp, afterSeq, afterBlock, atReturn}
+use Rattle.cache.proofs.Walking.{Atoms, sem, Given, ‵, _⊛_, some, later, _$_, _∵_, !, qed, move, keep, use1, use3, fsplit, fjoin, await, pick, done, by, raw}
+use Rattle.cache.proofs.Walking.{split, join, frame, drop, suffices, Item, given, ⋆, runs, anyQ, atRet, Sq, use2, use0, rewrite, learn, owns, Is, shows, RefT}
+use Rattle.cache.proofs.Walking.{MutRef, ptr-vals, mut-tells, LentAgain, lends-again, comes-back, owned, only, heard, nothing, facts, Memory, Routine, Fun, fact}
+use Rattle.cache.proofs.Walking.{Boolean, bool-makes, uint-makes, uint-vals, uint-tells, u8, u32, Contract, Triple, tripleOf, Meets, says, needs, Stays, stay-ref}
+use Rattle.cache.proofs.Walking.{stay-none, walkOf, AllGo, goes-none, goes-ref, Walks, ends-at, walked, walk-meets, stay-none-slice, goes-none-slice, ensured}
+use Rattle.cache.proofs.Walking.{lasts, givenOf, tables, look, init, forget, stop, hop, from, load, of-opd, assigns, and-then, no-more, land, returns, enter}
+use Rattle.cache.proofs.Walking.{alloc1, alloc0, params1, pass1, pass0, free1, free0, store, fld, lit, addr, bin, assigns-last, first, skips, jumps, blocks}
+use Rattle.cache.proofs.Walking.{branches, exec, Below, again, loops, FmC, fmOf, WpFn-mono, plain, calls-at, onEntry, entered, cited, yes, Nat·lt-wfRel, ltb→lt}
+use Rattle.cache.proofs.Walking.{nltb→le, lit<, whole, sub, look-in, lft-new, lft-end, sliceVal, ShrSlice, slice-vals, shr-slice-tells, shr-slice-lawful}
+use Rattle.cache.proofs.Walking.{shr-slice-copy, afterTurn, tablesOf, tyAt, second}
 use lib.ListN.{length, drop as dropN}
 use denote.Struct.Laws as LL
 use Rattle.cache.specs.Sum.{bit}

@@ -1,14 +1,14 @@
 -- `part::after_part` meets its contract: a walk of its MIR, by hand. The local is lent to `refer_part` for a lifetime that is made for the call,
 -- and is read when it is back. Assumes nothing.
-use Rattle.runs.proofs.Walking.{ℕ, _+_, _<_, _^_, List, [], _∷_, _≡_, refl, ap, sym, subst, URA, fullShare, named, tyUnit, Val, vptr, vunit, hasTy, WT, ent}
-use Rattle.runs.proofs.Walking.{sep, ex, guard, SProp, id⊢, Lft, GName, fat, flent, fres, ftrue, flft, Share, Heap, WpFn, Tables, Atoms, Given, ‵, _⊛_, some}
-use Rattle.runs.proofs.Walking.{later, _$_, _∵_, !, qed, move, keep, use1, use3, fsplit, fjoin, await, updating, at-once, pick, show, check, done, by, raw}
-use Rattle.runs.proofs.Walking.{split, join, feqL, frame, drop, suffices, given, ⋆, learn, group, split3, Body, owns, Is, mem, RefT, MutRef, owned, only, heard}
-use Rattle.runs.proofs.Walking.{nothing, Memory, Routine, Fun, fact, Nothing, u8, u16, usize, Contract, Triple, tripleOf, Meets, says, needs, Stays, stay-none}
-use Rattle.runs.proofs.Walking.{walkOf, AllGo, goes-none, Walks, ends-at, walked, walk-meets, stay-none-slice, goes-none-slice, ensured, lasts, givenOf, tables}
-use Rattle.runs.proofs.Walking.{look, init, forget, stop, from, load, of-opd, assigns, and-then, no-more, land, returns, enter, alloc1, alloc0, params1, pass1}
-use Rattle.runs.proofs.Walking.{pass0, free1, free0, addr, fmOf, WpFn-mono, plain, calls-at, onEntry, entered, cited, yes, Holds, lft-new, lft-end, ShrSlice}
-use Rattle.runs.proofs.Walking.{slice-vals, shr-slice-tells, shr-slice-lawful, shr-slice-copy, tablesOf}
+use Rattle.cache.proofs.Walking.{ℕ, _+_, _<_, _^_, List, [], _∷_, _≡_, refl, ap, sym, subst, URA, fullShare, named, tyUnit, Val, vptr, vunit, hasTy, WT, ent}
+use Rattle.cache.proofs.Walking.{sep, ex, guard, SProp, id⊢, Lft, GName, fat, flent, fres, ftrue, flft, Share, Heap, WpFn, Tables, Atoms, Given, ‵, _⊛_, some}
+use Rattle.cache.proofs.Walking.{later, _$_, _∵_, !, qed, move, keep, use1, use3, fsplit, fjoin, await, updating, at-once, pick, show, check, done, by, raw}
+use Rattle.cache.proofs.Walking.{split, join, feqL, frame, drop, suffices, given, ⋆, learn, group, split3, Body, owns, Is, mem, RefT, MutRef, owned, only, heard}
+use Rattle.cache.proofs.Walking.{nothing, Memory, Routine, Fun, fact, Nothing, u8, u16, usize, Contract, Triple, tripleOf, Meets, says, needs, Stays, stay-none}
+use Rattle.cache.proofs.Walking.{walkOf, AllGo, goes-none, Walks, ends-at, walked, walk-meets, stay-none-slice, goes-none-slice, ensured, lasts, givenOf, tables}
+use Rattle.cache.proofs.Walking.{look, init, forget, stop, from, load, of-opd, assigns, and-then, no-more, land, returns, enter, alloc1, alloc0, params1, pass1}
+use Rattle.cache.proofs.Walking.{pass0, free1, free0, addr, fmOf, WpFn-mono, plain, calls-at, onEntry, entered, cited, yes, Holds, lft-new, lft-end, ShrSlice}
+use Rattle.cache.proofs.Walking.{slice-vals, shr-slice-tells, shr-slice-lawful, shr-slice-copy, tablesOf}
 use lib.ListN.{length}
 use denote.Struct.Laws as LL
 use Rattle.cache.specs.Shape.{shaped}

@@ -1,14 +1,14 @@
 -- `part::after_part_both` meets its contract: a walk of its MIR, by hand. The two caches are copied out into locals, which are lent to
 -- `refer_part_both`, each for a lifetime that is made for the call; when they are back, they and the lost hits make the answer. Assumes nothing.
-use Rattle.runs.proofs.Walking.{ℕ, _<_, _^_, List, [], _∷_, _≡_, refl, ap, URA, fullShare, named, w32, tyInt, Val, vptr, vint, hasTy, WT, ent, sep, ex}
-use Rattle.runs.proofs.Walking.{guard, SProp, id⊢, Lft, GName, fat, flent, fres, ftrue, flft, Share, Heap, WpFn, Tables, Atoms, Given, ‵, _⊛_, some, later, _$_}
-use Rattle.runs.proofs.Walking.{_∵_, !, qed, move, keep, use1, use3, fsplit, fjoin, await, updating, at-once, pick, show, check, done, by, raw, split, join}
-use Rattle.runs.proofs.Walking.{frame, drop, suffices, Item, given, ⋆, rewrite, learn, group, split3, Body, owns, Is, shows, mem, RefT, MutRef, owned, only}
-use Rattle.runs.proofs.Walking.{heard, nothing, facts, Memory, Routine, Fun, fact, uint-makes, u8, u16, u32, usize, Contract, Triple, tripleOf, Meets, says}
-use Rattle.runs.proofs.Walking.{needs, Stays, stay-none, walkOf, AllGo, goes-none, Walks, ends-at, walked, walk-meets, stay-none-slice, goes-none-slice, ensured}
-use Rattle.runs.proofs.Walking.{lasts, givenOf, tables, look, init, forget, stop, from, load, of-opd, assigns, and-then, no-more, land, returns, enter, alloc1}
-use Rattle.runs.proofs.Walking.{alloc0, params1, pass1, pass0, free1, free0, fld, addr, fmOf, WpFn-mono, plain, calls-at, onEntry, entered, cited, yes, Holds}
-use Rattle.runs.proofs.Walking.{whole, sub, look-in, agg, lft-new, lft-end, ShrSlice, slice-vals, shr-slice-tells, shr-slice-lawful, shr-slice-copy, tablesOf}
+use Rattle.cache.proofs.Walking.{ℕ, _<_, _^_, List, [], _∷_, _≡_, refl, ap, URA, fullShare, named, w32, tyInt, Val, vptr, vint, hasTy, WT, ent, sep, ex}
+use Rattle.cache.proofs.Walking.{guard, SProp, id⊢, Lft, GName, fat, flent, fres, ftrue, flft, Share, Heap, WpFn, Tables, Atoms, Given, ‵, _⊛_, some, later, _$_}
+use Rattle.cache.proofs.Walking.{_∵_, !, qed, move, keep, use1, use3, fsplit, fjoin, await, updating, at-once, pick, show, check, done, by, raw, split, join}
+use Rattle.cache.proofs.Walking.{frame, drop, suffices, Item, given, ⋆, rewrite, learn, group, split3, Body, owns, Is, shows, mem, RefT, MutRef, owned, only}
+use Rattle.cache.proofs.Walking.{heard, nothing, facts, Memory, Routine, Fun, fact, uint-makes, u8, u16, u32, usize, Contract, Triple, tripleOf, Meets, says}
+use Rattle.cache.proofs.Walking.{needs, Stays, stay-none, walkOf, AllGo, goes-none, Walks, ends-at, walked, walk-meets, stay-none-slice, goes-none-slice, ensured}
+use Rattle.cache.proofs.Walking.{lasts, givenOf, tables, look, init, forget, stop, from, load, of-opd, assigns, and-then, no-more, land, returns, enter, alloc1}
+use Rattle.cache.proofs.Walking.{alloc0, params1, pass1, pass0, free1, free0, fld, addr, fmOf, WpFn-mono, plain, calls-at, onEntry, entered, cited, yes, Holds}
+use Rattle.cache.proofs.Walking.{whole, sub, look-in, agg, lft-new, lft-end, ShrSlice, slice-vals, shr-slice-tells, shr-slice-lawful, shr-slice-copy, tablesOf}
 use lib.ListN.{length}
 use denote.Struct.Laws as LL
 use Rattle.cache.specs.Shape.{shaped}

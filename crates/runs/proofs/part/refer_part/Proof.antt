@@ -1,19 +1,19 @@
 -- `part::refer_part` meets its contract: a walk of its MIR, by hand, with a loop. In each turn the references of the part in the next block are found
 -- by `part_on`, and the cache is lent again to `refer_all` for a lifetime that is made for the call, and comes back.
 -- The invariant: what is left of the part, run from here, gives what the whole part gives from the start. Assumes nothing.
-use Rattle.runs.proofs.Walking.{ℕ, _+_, _≤_, _<_, _^_, _-_, _/_, List, [], _∷_, _≡_, refl, ap, sym, subst, _∙_, arith, add-one-dec, WellFounded}
-use Rattle.runs.proofs.Walking.{InvImage·wf, URA, fullShare, named, Ty, Code, w64, tyUnit, Val, vptr, vunit, vint, hasTy, WT, ent, sep, ex, guard, SProp, id⊢}
-use Rattle.runs.proofs.Walking.{Lft, GName, Fml, fat, fres, ftrue, flft, Share, froom, fdies, Heap, Calls, Loops, WpFn, Tables, Out, Env, Wp, afterSeq}
-use Rattle.runs.proofs.Walking.{afterBlock, atReturn, Atoms, Given, ‵, _⊛_, some, later, _$_, _∵_, !, qed, move, keep, use1, use3, fsplit, fjoin, await}
-use Rattle.runs.proofs.Walking.{updating, at-once, pick, show, check, done, by, raw, split, join, feqL, frame, drop, feqI, suffices, Item, given, ⋆, runs, anyQ}
-use Rattle.runs.proofs.Walking.{atRet, Sq, use2, rewrite, learn, group, split3, owns, Is, RefT, MutRef, ptr-vals, mut-tells, LentAgain, lends-again, comes-back}
-use Rattle.runs.proofs.Walking.{owned, only, heard, nothing, Memory, Routine, Fun, fact, Nothing, u8, u16, usize, Contract, Triple, tripleOf, Meets, says, needs}
-use Rattle.runs.proofs.Walking.{Stays, stay-ref, stay-none, walkOf, AllGo, goes-none, goes-ref, Walks, ends-at, walked, walk-meets, stay-none-slice}
-use Rattle.runs.proofs.Walking.{goes-none-slice, ensured, lasts, givenOf, tables, look, init, forget, stop, hop, from, load, unit-lit, of-opd, assigns, and-then}
-use Rattle.runs.proofs.Walking.{no-more, land, returns, enter, alloc1, alloc0, params1, pass1, pass0, free1, free0, store, fld, lit, addr, bin, assigns-last}
-use Rattle.runs.proofs.Walking.{first, skips, jumps, blocks, branches, exec, Below, again, loops, FmC, fmOf, WpFn-mono, plain, calls-at, onEntry, entered, cited}
-use Rattle.runs.proofs.Walking.{yes, Nat·lt-wfRel, Holds, ltb→lt, nltb→le, whole, sub, look-in, lft-new, lft-end, ShrSlice, slice-vals, shr-slice-tells}
-use Rattle.runs.proofs.Walking.{shr-slice-lawful, shr-slice-copy, afterTurn, tablesOf, tyAt, second}
+use Rattle.cache.proofs.Walking.{ℕ, _+_, _≤_, _<_, _^_, _-_, _/_, List, [], _∷_, _≡_, refl, ap, sym, subst, _∙_, arith, add-one-dec, WellFounded}
+use Rattle.cache.proofs.Walking.{InvImage·wf, URA, fullShare, named, Ty, Code, w64, tyUnit, Val, vptr, vunit, vint, hasTy, WT, ent, sep, ex, guard, SProp, id⊢}
+use Rattle.cache.proofs.Walking.{Lft, GName, Fml, fat, fres, ftrue, flft, Share, froom, fdies, Heap, Calls, Loops, WpFn, Tables, Out, Env, Wp, afterSeq}
+use Rattle.cache.proofs.Walking.{afterBlock, atReturn, Atoms, Given, ‵, _⊛_, some, later, _$_, _∵_, !, qed, move, keep, use1, use3, fsplit, fjoin, await}
+use Rattle.cache.proofs.Walking.{updating, at-once, pick, show, check, done, by, raw, split, join, feqL, frame, drop, feqI, suffices, Item, given, ⋆, runs, anyQ}
+use Rattle.cache.proofs.Walking.{atRet, Sq, use2, rewrite, learn, group, split3, owns, Is, RefT, MutRef, ptr-vals, mut-tells, LentAgain, lends-again, comes-back}
+use Rattle.cache.proofs.Walking.{owned, only, heard, nothing, Memory, Routine, Fun, fact, Nothing, u8, u16, usize, Contract, Triple, tripleOf, Meets, says, needs}
+use Rattle.cache.proofs.Walking.{Stays, stay-ref, stay-none, walkOf, AllGo, goes-none, goes-ref, Walks, ends-at, walked, walk-meets, stay-none-slice}
+use Rattle.cache.proofs.Walking.{goes-none-slice, ensured, lasts, givenOf, tables, look, init, forget, stop, hop, from, load, unit-lit, of-opd, assigns, and-then}
+use Rattle.cache.proofs.Walking.{no-more, land, returns, enter, alloc1, alloc0, params1, pass1, pass0, free1, free0, store, fld, lit, addr, bin, assigns-last}
+use Rattle.cache.proofs.Walking.{first, skips, jumps, blocks, branches, exec, Below, again, loops, FmC, fmOf, WpFn-mono, plain, calls-at, onEntry, entered, cited}
+use Rattle.cache.proofs.Walking.{yes, Nat·lt-wfRel, Holds, ltb→lt, nltb→le, whole, sub, look-in, lft-new, lft-end, ShrSlice, slice-vals, shr-slice-tells}
+use Rattle.cache.proofs.Walking.{shr-slice-lawful, shr-slice-copy, afterTurn, tablesOf, tyAt, second}
 use mathlib.Core.Logic.{inl, inr}
 use lib.ListN.{length}
 use denote.Struct.Laws as LL

@@ -1,19 +1,19 @@
 -- `part::refer_part_both` meets its contract: a walk of its MIR, by hand, with a loop. In each turn the references of the part in the next block are
 -- found by `part_on`, and both caches are lent again to `refer_both`, each for a lifetime that is made for the call, and come back.
 -- The invariant: what is left of the part, run from here, gives what the whole part gives from the start. Assumes nothing.
-use Rattle.runs.proofs.Walking.{ℕ, _+_, _≤_, _<_, _^_, _-_, _/_, List, [], _∷_, _≡_, refl, ap, sym, subst, _∙_, arith, add-one-dec, WellFounded}
-use Rattle.runs.proofs.Walking.{InvImage·wf, URA, fullShare, named, w32, tyInt, Ty, Code, w64, Val, vptr, vint, hasTy, WT, ent, sep, ex, guard, SProp, id⊢, Lft}
-use Rattle.runs.proofs.Walking.{GName, Fml, fat, fres, ftrue, flft, Share, froom, fdies, Heap, Calls, Loops, WpFn, Tables, Out, Env, Wp, afterSeq, afterBlock}
-use Rattle.runs.proofs.Walking.{atReturn, Atoms, Given, ‵, _⊛_, some, later, _$_, _∵_, !, qed, move, keep, use1, use3, fsplit, fjoin, await, updating, at-once}
-use Rattle.runs.proofs.Walking.{pick, show, check, done, by, raw, split, join, frame, drop, suffices, Item, given, ⋆, runs, anyQ, atRet, Sq, use2, rewrite}
-use Rattle.runs.proofs.Walking.{learn, group, split3, owns, Is, shows, RefT, MutRef, ptr-vals, mut-tells, LentAgain, lends-again, comes-back, owned, only, heard}
-use Rattle.runs.proofs.Walking.{nothing, facts, Memory, Routine, Fun, fact, uint-makes, uint-vals, uint-tells, u8, u16, u32, usize, Contract, Triple, tripleOf}
-use Rattle.runs.proofs.Walking.{Meets, says, needs, Stays, stay-ref, stay-none, walkOf, AllGo, goes-none, goes-ref, Walks, ends-at, walked, walk-meets}
-use Rattle.runs.proofs.Walking.{stay-none-slice, goes-none-slice, ensured, lasts, givenOf, tables, look, init, forget, stop, hop, from, load, of-opd, assigns}
-use Rattle.runs.proofs.Walking.{and-then, no-more, land, returns, enter, alloc1, alloc0, params1, pass1, pass0, free1, free0, store, fld, lit, addr, bin}
-use Rattle.runs.proofs.Walking.{assigns-last, first, skips, jumps, blocks, branches, exec, Below, again, loops, FmC, fmOf, WpFn-mono, plain, calls-at, onEntry}
-use Rattle.runs.proofs.Walking.{entered, cited, yes, Nat·lt-wfRel, Holds, ltb→lt, nltb→le, whole, sub, look-in, lft-new, lft-end, ShrSlice, slice-vals}
-use Rattle.runs.proofs.Walking.{shr-slice-tells, shr-slice-lawful, shr-slice-copy, afterTurn, tablesOf, tyAt, second}
+use Rattle.cache.proofs.Walking.{ℕ, _+_, _≤_, _<_, _^_, _-_, _/_, List, [], _∷_, _≡_, refl, ap, sym, subst, _∙_, arith, add-one-dec, WellFounded}
+use Rattle.cache.proofs.Walking.{InvImage·wf, URA, fullShare, named, w32, tyInt, Ty, Code, w64, Val, vptr, vint, hasTy, WT, ent, sep, ex, guard, SProp, id⊢, Lft}
+use Rattle.cache.proofs.Walking.{GName, Fml, fat, fres, ftrue, flft, Share, froom, fdies, Heap, Calls, Loops, WpFn, Tables, Out, Env, Wp, afterSeq, afterBlock}
+use Rattle.cache.proofs.Walking.{atReturn, Atoms, Given, ‵, _⊛_, some, later, _$_, _∵_, !, qed, move, keep, use1, use3, fsplit, fjoin, await, updating, at-once}
+use Rattle.cache.proofs.Walking.{pick, show, check, done, by, raw, split, join, frame, drop, suffices, Item, given, ⋆, runs, anyQ, atRet, Sq, use2, rewrite}
+use Rattle.cache.proofs.Walking.{learn, group, split3, owns, Is, shows, RefT, MutRef, ptr-vals, mut-tells, LentAgain, lends-again, comes-back, owned, only, heard}
+use Rattle.cache.proofs.Walking.{nothing, facts, Memory, Routine, Fun, fact, uint-makes, uint-vals, uint-tells, u8, u16, u32, usize, Contract, Triple, tripleOf}
+use Rattle.cache.proofs.Walking.{Meets, says, needs, Stays, stay-ref, stay-none, walkOf, AllGo, goes-none, goes-ref, Walks, ends-at, walked, walk-meets}
+use Rattle.cache.proofs.Walking.{stay-none-slice, goes-none-slice, ensured, lasts, givenOf, tables, look, init, forget, stop, hop, from, load, of-opd, assigns}
+use Rattle.cache.proofs.Walking.{and-then, no-more, land, returns, enter, alloc1, alloc0, params1, pass1, pass0, free1, free0, store, fld, lit, addr, bin}
+use Rattle.cache.proofs.Walking.{assigns-last, first, skips, jumps, blocks, branches, exec, Below, again, loops, FmC, fmOf, WpFn-mono, plain, calls-at, onEntry}
+use Rattle.cache.proofs.Walking.{entered, cited, yes, Nat·lt-wfRel, Holds, ltb→lt, nltb→le, whole, sub, look-in, lft-new, lft-end, ShrSlice, slice-vals}
+use Rattle.cache.proofs.Walking.{shr-slice-tells, shr-slice-lawful, shr-slice-copy, afterTurn, tablesOf, tyAt, second}
 use mathlib.Core.Logic.{inl, inr}
 use lib.ListN.{length}
 use denote.Struct.Laws as LL

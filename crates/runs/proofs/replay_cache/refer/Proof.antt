@@ -2,14 +2,14 @@
 -- made for the call, and when it is back the count is stored; nothing of the cache is copied. It hits where the count stays. Assumes nothing.
 use mathlib.Core.Bool.{Bool}
 use mathlib.Core.List.{map-id}
-use Rattle.runs.proofs.Walking.{_≡_, refl, sym, ap, subst, _∙_, ℕ, _+_, _<_, _^_, [], _∷_, List, Holds, URA, fullShare, named, w32, tyInt, Val, vint, vbool, vptr, vstruct, ofList, hasTy, WT, SProp, ent}
-use Rattle.runs.proofs.Walking.{sep, ex, guard, all, allE, apply∗, id⊢, GName, Lft, Share, ftrue, fat, flft, fobs, fbor, fres, flent, Memory, Routine, Heap, WpFn, Tables}
-use Rattle.runs.proofs.Walking.{Atoms, sem, Fun, fact, givenOf, tables, tablesOf, Given, ‵, raw, given, _⊛_, some, later, _$_, _∵_, !, qed, by, move, keep, drop, use1, use2, use3}
-use Rattle.runs.proofs.Walking.{split, join, pick, learn, rewrite, fsplit, fsplit3, fjoin, fjoin3, feqI, suffices, frame, await, updating, at-once, show, check, done, look, init, forget}
-use Rattle.runs.proofs.Walking.{stop, hop, fld, from, load, addr, bin, of-opd, assigns, and-then, no-more, land, returns, enter, alloc1, alloc0, params1, pass1, pass0, free1, free0}
-use Rattle.runs.proofs.Walking.{whole, sub, look-in, store-in, lft-new, lft-end, Body, fmOf, WpFn-mono, owns, Is, shows, mem, Boolean, bool-makes, uint-makes, u32, RefT, MutRef, ptr-vals, mut-tells}
-use Rattle.runs.proofs.Walking.{plain, opens, closes, owned, facts, heard, nothing, only, spelt, Contract, Triple, calls-at, onEntry, Meets, tripleOf, entered, cited, says, needs}
-use Rattle.runs.proofs.Walking.{Stays, stay-ref, stay-none, walkOf, AllGo, goes-none, goes-ref, Walks, ends-at, walked, walk-meets, yes, ensured, lasts}
+use Rattle.cache.proofs.Walking.{_≡_, refl, sym, ap, subst, _∙_, ℕ, _+_, _<_, _^_, [], _∷_, List, Holds, URA, fullShare, named, w32, tyInt, Val, vint, vbool, vptr, vstruct, ofList, hasTy, WT, SProp, ent}
+use Rattle.cache.proofs.Walking.{sep, ex, guard, all, allE, apply∗, id⊢, GName, Lft, Share, ftrue, fat, flft, fobs, fbor, fres, flent, Memory, Routine, Heap, WpFn, Tables}
+use Rattle.cache.proofs.Walking.{Atoms, sem, Fun, fact, givenOf, tables, tablesOf, Given, ‵, raw, given, _⊛_, some, later, _$_, _∵_, !, qed, by, move, keep, drop, use1, use2, use3}
+use Rattle.cache.proofs.Walking.{split, join, pick, learn, rewrite, fsplit, fsplit3, fjoin, fjoin3, feqI, suffices, frame, await, updating, at-once, show, check, done, look, init, forget}
+use Rattle.cache.proofs.Walking.{stop, hop, fld, from, load, addr, bin, of-opd, assigns, and-then, no-more, land, returns, enter, alloc1, alloc0, params1, pass1, pass0, free1, free0}
+use Rattle.cache.proofs.Walking.{whole, sub, look-in, store-in, lft-new, lft-end, Body, fmOf, WpFn-mono, owns, Is, shows, mem, Boolean, bool-makes, uint-makes, u32, RefT, MutRef, ptr-vals, mut-tells}
+use Rattle.cache.proofs.Walking.{plain, opens, closes, owned, facts, heard, nothing, only, spelt, Contract, Triple, calls-at, onEntry, Meets, tripleOf, entered, cited, says, needs}
+use Rattle.cache.proofs.Walking.{Stays, stay-ref, stay-none, walkOf, AllGo, goes-none, goes-ref, Walks, ends-at, walked, walk-meets, yes, ensured, lasts}
 use lib.Dec.{eqb}
 use lib.ListN.{length}
 use denote.Struct.Laws as LL

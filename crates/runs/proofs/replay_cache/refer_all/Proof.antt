@@ -1,18 +1,18 @@
 -- `replay_cache::refer_all` meets its contract: a walk of its MIR, by hand, with a loop. In each turn the next reference is read by `reference_at`,
 -- and the cache is lent again to `refer` for a lifetime that is made for the call, and comes back.
 -- The invariant: what is left of the references, made from here, gives what all of them give from the start. Assumes nothing.
-use Rattle.runs.proofs.Walking.{ℕ, _+_, _≤_, _<_, _^_, _-_, _*_, _/_, List, [], _∷_, _≡_, refl, _∙_, arith, add-one-dec, WellFounded, InvImage·wf, URA}
-use Rattle.runs.proofs.Walking.{fullShare, named, Ty, Code, w64, Val, vptr, vunit, vint, vbool, ent, SProp, id⊢, Lft, GName, Fml, fat, fres, ftrue, flft, Share}
-use Rattle.runs.proofs.Walking.{froom, fdies, Heap, Calls, Loops, WpFn, Tables, Out, Env, Wp, afterSeq, afterBlock, atReturn, Atoms, Given, ‵, _⊛_, some, later}
-use Rattle.runs.proofs.Walking.{_$_, _∵_, !, qed, move, keep, use1, use3, fsplit, fjoin, await, pick, done, by, raw, split, join, frame, drop, feqI, suffices}
-use Rattle.runs.proofs.Walking.{Item, given, ⋆, runs, anyQ, atRet, Sq, use2, learn, owns, Is, shows, RefT, MutRef, ptr-vals, mut-tells, LentAgain, lends-again}
-use Rattle.runs.proofs.Walking.{comes-back, owned, heard, nothing, facts, Memory, Routine, Fun, fact, u8, Triple, tripleOf, Meets, says, needs, Stays, stay-ref}
-use Rattle.runs.proofs.Walking.{stay-none, walkOf, AllGo, goes-none, goes-ref, Walks, ends-at, walked, walk-meets, stay-none-slice, goes-none-slice, ensured}
-use Rattle.runs.proofs.Walking.{givenOf, tables, look, init, forget, stop, hop, from, load, unit-lit, of-opd, assigns, and-then, no-more, land, returns, enter}
-use Rattle.runs.proofs.Walking.{alloc1, alloc0, params1, pass1, pass0, free1, free0, store, fld, lit, addr, bin, assigns-last, first, skips, jumps, blocks}
-use Rattle.runs.proofs.Walking.{branches, exec, Below, again, loops, FmC, fmOf, WpFn-mono, plain, calls-at, onEntry, entered, cited, yes, Nat·lt-wfRel, ltb→lt}
-use Rattle.runs.proofs.Walking.{nltb→le, lit<, whole, sub, look-in, lft-new, lft-end, sliceVal, ShrSlice, slice-vals, shr-slice-tells, shr-slice-lawful}
-use Rattle.runs.proofs.Walking.{shr-slice-copy, afterTurn, tablesOf, tyAt, second}
+use Rattle.cache.proofs.Walking.{ℕ, _+_, _≤_, _<_, _^_, _-_, _*_, _/_, List, [], _∷_, _≡_, refl, _∙_, arith, add-one-dec, WellFounded, InvImage·wf, URA}
+use Rattle.cache.proofs.Walking.{fullShare, named, Ty, Code, w64, Val, vptr, vunit, vint, vbool, ent, SProp, id⊢, Lft, GName, Fml, fat, fres, ftrue, flft, Share}
+use Rattle.cache.proofs.Walking.{froom, fdies, Heap, Calls, Loops, WpFn, Tables, Out, Env, Wp, afterSeq, afterBlock, atReturn, Atoms, Given, ‵, _⊛_, some, later}
+use Rattle.cache.proofs.Walking.{_$_, _∵_, !, qed, move, keep, use1, use3, fsplit, fjoin, await, pick, done, by, raw, split, join, frame, drop, feqI, suffices}
+use Rattle.cache.proofs.Walking.{Item, given, ⋆, runs, anyQ, atRet, Sq, use2, learn, owns, Is, shows, RefT, MutRef, ptr-vals, mut-tells, LentAgain, lends-again}
+use Rattle.cache.proofs.Walking.{comes-back, owned, heard, nothing, facts, Memory, Routine, Fun, fact, u8, Triple, tripleOf, Meets, says, needs, Stays, stay-ref}
+use Rattle.cache.proofs.Walking.{stay-none, walkOf, AllGo, goes-none, goes-ref, Walks, ends-at, walked, walk-meets, stay-none-slice, goes-none-slice, ensured}
+use Rattle.cache.proofs.Walking.{givenOf, tables, look, init, forget, stop, hop, from, load, unit-lit, of-opd, assigns, and-then, no-more, land, returns, enter}
+use Rattle.cache.proofs.Walking.{alloc1, alloc0, params1, pass1, pass0, free1, free0, store, fld, lit, addr, bin, assigns-last, first, skips, jumps, blocks}
+use Rattle.cache.proofs.Walking.{branches, exec, Below, again, loops, FmC, fmOf, WpFn-mono, plain, calls-at, onEntry, entered, cited, yes, Nat·lt-wfRel, ltb→lt}
+use Rattle.cache.proofs.Walking.{nltb→le, lit<, whole, sub, look-in, lft-new, lft-end, sliceVal, ShrSlice, slice-vals, shr-slice-tells, shr-slice-lawful}
+use Rattle.cache.proofs.Walking.{shr-slice-copy, afterTurn, tablesOf, tyAt, second}
 use lib.ListN.{length, drop as dropN}
 use denote.Struct.Laws as LL
 use Rattle.cache.specs.Shape.{shaped}

@@ -1,0 +1,3 @@
+pub mod ResponseLaws
+pub mod Answers
+pub mod Charges
