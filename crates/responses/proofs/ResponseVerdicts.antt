@@ -1,5 +1,5 @@
 -- What the call answers is the verdict on its checks, `response-verdict`, and a list that it sets has each R of the document's equation,
--- `responded-is`; no other list has them, `responded-only`.
+-- `responded-is`, `response-filled`; no other list has them, `responded-only`.
 -- The idea: 1 to 11 are Table's, 21 compares the numbers of each record, and the least number that meets an equation is one.
 use mathlib.Core.Path.{_≡_, refl, sym, ap, ap₂, subst, _∙_}
 use mathlib.Core.Logic.{_↔_, inl, inr, _≢_}
@@ -26,16 +26,16 @@ use Rattle.project.proofs.TaskFaults.{Bytes}
 use Rattle.project.proofs.Verdicts.{outside-exact, differ-exact, either-exact, file-agreeing, filling-verdict}
 use Rattle.rows.specs.Rows.{areaLength}
 use Rattle.graphs.specs.TaskRows.{test11}
-use Rattle.project.specs.declared.answers.Filling.the-variants.{Filled}
+use Rattle.project.specs.declared.answers.Filling.the-variants.{Filled, Refused}
 use Rattle.table.specs.Table.{fullChecks, tableAnswer, tableAfter}
 use Rattle.table.proofs.TableVerdicts.{exact11}
-use Rattle.table.proofs.Entries.{table-entries}
+use Rattle.table.proofs.Entries.{filled-passed, refused-failed, table-entries}
 use Rattle.response.specs.declared.Record.{Record}
 use Rattle.response.specs.Response.{Answer, Fits}
 use Rattle.response.specs.Times.{recordOf, recordSide, recordResponse, lateMark, withResponse}
 use Rattle.response.proofs.ResponseLaws.{answer-unique, same-answer, same-right}
 use Rattle.response.proofs.Answers.{answer-is, in-time}
-use Rattle.responses.specs.Responses.{largestTime, largestPenalty, Wrong, Fault21, wrong, any, wrongRecord, test21, responseChecks, responseAnswer, responded, Responded}
+use Rattle.responses.specs.Responses.{largestTime, largestPenalty, Wrong, Fault21, wrong, any, wrongRecord, test21, responseChecks, responseCheck, responseAnswer, responded, responseAfter, Responded}
 use Rattle.responses.proofs.TimesLaws.{any-has, any-some}
 use Rattle.responses.proofs.ListLaws.{set-length, set-at}
 
@@ -93,6 +93,14 @@ module _ (s : File) (xs : List Record) (penalty : ℕ) where
         (answer-is (recordSide xs (filePair s) penalty i) (recordOf xs i .d));
     marked = λ i l. let e = record-at i l in ap (λ (x : Record). x .late) e ∙ sym (ap (λ (x : Record). lateMark (x .r)) e);
   }
+
+-- what the call leaves: where it is done, the R and the marks of the document; "any refusal keeps the list"
+module _ (w : ℕ) (s : File) (area : List ℕ) (xs : List Record) (penalty : ℕ) where
+  pub response-filled : responseAnswer w s area xs penalty ≡ Filled → Responded s xs penalty (responseAfter w s area xs penalty)
+  response-filled e = rw (filled-passed (responseCheck w s area xs penalty) e) (responded-is s xs penalty)
+
+  pub response-kept : {c a : ℕ} → responseAnswer w s area xs penalty ≡ Refused c a → responseAfter w s area xs penalty ≡ xs
+  response-kept e = rw (refused-failed (responseCheck w s area xs penalty) e) refl
 
 -- the pair numbers over paths are the computed ones, and so "where table answers" its entries
 pub pairs-only : (s : File) (pair : ℕ → ℕ → ℕ) → PairNumbers s pair → (i j : ℕ) → pair i j ≡ filePair s i j
