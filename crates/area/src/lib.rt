@@ -1,4 +1,6 @@
 // The work area of a task's states: its rows put in dictionary order, its counts, and the rows handed back.
+#![tactic(auto)]
+
 pub mod fill;
 pub mod row;
 

@@ -6,7 +6,7 @@ ghost use Rattle.area.specs.RowPart.{kind_start, count_in, row_start, row_length
 use cache::numbers::count;
 
 // Where a row stands in a work area, and how long it is.
-#[derive(Drop)]
+#[derive(Clone, Copy)]
 pub struct RowPlace {
     pub start: usize,
     pub length: usize,

@@ -18,7 +18,7 @@ const SUCCESSORS: usize = 4;
 const REFERENCES: usize = 16;
 
 // Where a block ends, or that it breaks the layout.
-#[derive(Drop)]
+#[derive(Clone, Copy)]
 pub enum BlockEnd {
     At(usize),
     Broken,

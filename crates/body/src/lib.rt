@@ -1,4 +1,6 @@
 // The body of a task: whether its bytes keep the layout, and where its blocks and their parts stand.
+#![tactic(auto)]
+
 pub mod block;
 pub mod jumps;
 pub mod masks;
@@ -17,7 +19,7 @@ use cache::numbers::byte_count;
 const BLOCKS: u8 = 24;
 
 // Where the blocks of a body stand, if it keeps its layout.
-#[derive(Drop)]
+#[derive(Clone, Copy)]
 pub struct BodyWalk {
     pub kept: bool,
     pub blocks: usize,

@@ -9,4 +9,3 @@ pub mod Bits
 pub mod Masks
 pub mod Members
 pub mod Copies
-pub mod Walking

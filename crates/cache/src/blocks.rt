@@ -2,14 +2,14 @@
 ghost use Rattle.std.specs.Prelude.{◌≡◌, ◌<◌};
 ghost use Rattle.cache.specs.Shape.{shaped};
 
-#[derive(Drop)]
+#[derive(Clone, Copy)]
 pub struct MemoryBlock(u16);
 
-#[derive(Drop)]
+#[derive(Clone, Copy)]
 pub struct CacheBlock(u8);
 
 // A cache: how many cache blocks it has.
-#[derive(Drop)]
+#[derive(Clone, Copy)]
 pub struct CacheShape {
     pub blocks: u8,
 }

@@ -1,4 +1,6 @@
 // The direct-mapped cache: blocks, rows, references and sets of cache blocks.
+#![tactic(auto)]
+
 pub mod blocks;
 pub mod numbers;
 pub mod references;

@@ -19,7 +19,7 @@ pub fn number_at(bytes: &[u8], i: usize) -> u16
 }
 
 // For each cache block the first and the last reference to it, of references made in order.
-#[derive(Drop)]
+#[derive(Clone, Copy)]
 pub struct BlockReferences {
     pub first: Row,
     pub last: Row,

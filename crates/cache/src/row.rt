@@ -5,7 +5,7 @@ ghost use Rattle.cache.specs.Firsts.{first_of};
 
 use crate::blocks::{CacheBlock, MemoryBlock};
 
-#[derive(Drop)]
+#[derive(Clone, Copy)]
 pub struct Row {
     pub cells: [u16; 32],
 }

@@ -48,7 +48,7 @@ runs_apart s h n t e apart = record {
       (omega (arith, x.undisturbed, x.disturbed, b.lower), omega (arith, x.undisturbed, x.disturbed, x.lost, b.equal));
   reached = λ i j hi hj ne some.
       let x = (file-demand_3 s h n t e).reached i j (rw (tasks_long s) hi) (rw (tasks_long s) hj) ne some in
-      (x.run, x.task-i, x.once, omega (arith, x.equal, (each x.run).equal));
+      (x.run, x.task_i, x.once, omega (arith, x.equal, (each x.run).equal));
 }
   where
     each : (run : DisturbedRun (tasks_of s)) → BoundedApart (file_cache s) (tasks_of s) run

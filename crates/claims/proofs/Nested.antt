@@ -58,7 +58,7 @@ run_same r q e =
 of_the_run : (s : File) → Bytes s → (run : NestedRun (tasks_of s)) (x : ℕ) → nested_replaying_of s (nested_sheet (tasks_of s) run) ≡ Counted x → x ≡ file_total s run
 of_the_run s h run x e =
     let y = replayed s h (nested_sheet (tasks_of s) run) x e in
-    let (a, b, c) = run_same (nested_sheet_run (tasks_of s) run) (nested_sheet_run (tasks_of s) y.run) y.sheet-of in
+    let (a, b, c) = run_same (nested_sheet_run (tasks_of s) run) (nested_sheet_run (tasks_of s) y.run) y.sheet_of_lem in
     y.counted ∙ totals run.p y.run.p run.path y.run.path run.runs y.run.runs a b c
   where
     totals : (p q : ℕ) (path other : List ℕ) (xs ys : RunList) → p ≡ q → path ≡ other → xs ≡ ys

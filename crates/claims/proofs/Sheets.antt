@@ -51,7 +51,7 @@ sheet_same r q e =
 pub of_the_run : (s : List ℕ) → Bytes s → ReplayAnswers s
 of_the_run s h run u d l e =
     let x = replayed s h (sheet_of s run) u d l e in
-    let (a, b, c) = sheet_same (sheet_run (tasks_of s) run) (sheet_run (tasks_of s) x.run) x.sheet-of in (
+    let (a, b, c) = sheet_same (sheet_run (tasks_of s) run) (sheet_run (tasks_of s) x.run) x.sheet_of_lem in (
       x.undisturbed ∙ counts run.p x.run.p run.path x.run.path [] [] a b refl,
       x.disturbed ∙ counts run.p x.run.p run.path x.run.path run.preemptions x.run.preemptions a b c,
       x.lost ∙ losses run.p x.run.p run.path x.run.path run.preemptions x.run.preemptions a b c,

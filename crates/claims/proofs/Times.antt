@@ -63,4 +63,4 @@ numbers-timed s n t e = record {
     few : (i j : ℕ) → file_pair s i j ≤ largest_number
     few i j =
         let is = passing s (accepted-passed s n t e).0 in
-        omega (arith, pair_le (file_cache s) (task (tasks_of s) i) (task (tasks_of s) j), is.n-high, is.k-high)
+        omega (arith, pair_le (file_cache s) (task (tasks_of s) i) (task (tasks_of s) j), is.n_high, is.k_high)

@@ -1,1 +1,2 @@
 // Theorems over the calls: see specs/ and proofs/.
+#![tactic(auto)]

@@ -111,4 +111,4 @@ pub cut_part : (n a : ℕ) (l : List ℕ) → take (a + n - a) (drop a l) ≡ ta
 cut_part n a l = let e : a + n - a ≡ n = omega arith in rw e
 
 pub few_tasks : (s : List ℕ) → accepted (reading_of s) ≡ true → task_count s ≤ 8
-few_tasks s ok = (passing s (accepted-passed s (cache_blocks s) (task_count s) (reading s ok)).0).t-high
+few_tasks s ok = (passing s (accepted-passed s (cache_blocks s) (task_count s) (reading s ok)).0).t_high

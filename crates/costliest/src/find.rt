@@ -20,7 +20,7 @@ use task_trails::task_trails;
 
 // The states of a task in a work area: whether some block has more than 32 of a kind, how many rows of each kind a block has, and their trails, `to`
 // those of reaching states and `on` those of live ones.
-#[derive(Drop)]
+#[derive(Clone, Copy)]
 pub struct TaskTrails {
     pub full: bool,
     pub reached: [usize; 24],

@@ -1,4 +1,6 @@
 // Costliest run: for two tasks a run sheet with one preemption that costs their pair number.
+#![tactic(auto)]
+
 mod find;
 
 ghost use Rattle.std.specs.Prelude.{◌≡◌, true, false, ◌<◌, ◌≤◌, length};

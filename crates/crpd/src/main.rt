@@ -1,4 +1,6 @@
 // Reads a project file, named or on standard input, and prints its pair numbers, or the check that it fails.
+#![tactic(auto)]
+
 ghost use Rattle.std.specs.Prelude.{length};
 ghost use Rattle.crpd.specs.Input.{Within};
 
@@ -7,7 +9,7 @@ use project::answers::{Filling, NO_TASK};
 use report::report;
 
 // What reading answers: how many bytes now stand at the front, or that a read failed.
-#[derive(Drop)]
+#[derive(Clone, Copy)]
 enum Input {
     Bytes(usize),
     Failed,

@@ -1,4 +1,6 @@
 // The calls for C: numbers and slices only. A slice is a pointer and a number of elements.
+#![tactic(auto)]
+
 pub mod crpd_body;
 pub mod crpd_costliest_run;
 pub mod crpd_microseconds;

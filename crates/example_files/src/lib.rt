@@ -1,5 +1,7 @@
 // Project files that the example programs run on. The lines of a file's bytes are its head, its contents and its bodies; a long body is broken
 // after every third block.
+#![tactic(auto)]
+
 ghost use Rattle.std.specs.Prelude.{◌≡◌, ◌<◌, set};
 ghost use Rattle.project.specs.FileE.{file_e};
 

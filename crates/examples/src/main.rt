@@ -1,4 +1,6 @@
 // Runs document 01's examples of project files, and those of document 02, Points 1, 3, 5 and 6, and prints what each call answers.
+#![tactic(auto)]
+
 ghost use Rattle.std.specs.Prelude.{◌≡◌, ◌≤◌, ◌<◌, length};
 
 use example_files::{

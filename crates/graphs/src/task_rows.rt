@@ -99,7 +99,7 @@ fn gather_both(
 }
 
 // The blocks of a body, and for each the set of its successors.
-#[derive(Drop)]
+#[derive(Clone, Copy)]
 pub struct Jumps {
     pub blocks: usize,
     pub sets: [u32; 24],

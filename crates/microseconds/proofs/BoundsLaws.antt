@@ -41,7 +41,7 @@ within number penalty clock e =
 
 -- the cycles of all misses are at most those of the bounds
 pub cycles_le : {number penalty clock : ℕ} → Within number penalty clock → number * penalty ≤ largest_number * largest_penalty
-cycles_le w = mul-le-mul w.number-high w.penalty-high
+cycles_le w = mul-le-mul w.number_high w.penalty_high
 
 -- the answer, by what the check says
 pub answer-by :

@@ -44,7 +44,7 @@ module _ (number penalty clock : ℕ) where
       go :
           (r : Check) → microseconds_check number penalty clock ≡ r → Verdict (microseconds_checks number penalty clock) r →
           MicrosecondsVerdict number penalty clock (pick_timing r (whole number penalty clock) (remainder number penalty clock))
-      go Passed e v = (v, exact_time number penalty clock (within number penalty clock e).clock-low)
+      go Passed e v = (v, exact_time number penalty clock (within number penalty clock e).clock_low)
       go (Failed c a) e v = v
 
   -- what is computed is the only verdict of the checks

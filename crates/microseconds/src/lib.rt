@@ -1,4 +1,6 @@
 // Microseconds: the time that the misses of a pair number take, exactly.
+#![tactic(auto)]
+
 ghost use Rattle.std.specs.Prelude.{◌≡◌};
 ghost use Rattle.project.specs.Reading.{outside};
 ghost use Rattle.microseconds.specs.Microseconds.{microseconds_check, timing_of};
@@ -19,7 +21,7 @@ const KILOHERTZ_CYCLE: u32 = 1000;
 
 // What the call answers: the time is `whole` + `remainder` / clock microseconds, with the remainder below the clock; or check 17, which names
 // no task.
-#[derive(Drop)]
+#[derive(Clone, Copy)]
 pub enum Timing {
     Timed { whole: u32, remainder: u32 },
     Refused { check: u8, task: u8 },

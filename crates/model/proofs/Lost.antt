@@ -1,7 +1,7 @@
 -- Hits that preemptions turn into misses: how many there are at most, and exactly for one preemption, from any two rows.
 -- The idea: `gap` counts where the rows differ and the undisturbed one holds what comes next; a reference moves it to the lost hits.
 use mathlib.Core.Path.{◌≡◌, refl, sym, ◌∙◌}
-use mathlib.Core.Bool.{Bool, true, false, not, ◌&&◌, and_false, cond}
+use mathlib.Core.Bool.{Bool, true, false, not, ◌&&◌, and-false, cond}
 use mathlib.Core.List.{List, [], ◌∷◌, ◌++◌, append-nil}
 use Prim.Native.Nat.{ℕ, ◌+◌, ◌≤◌, ◌<◌}
 use native.Mathlib.Nat.{add-zero}
@@ -27,7 +27,7 @@ ref_cell : (b : Bool) (d u l m : ℕ) → Real m
     → cond b (bit (eqb u m && not (eqb d m))) 0 + bit (agree (cond b m u) l && not (eqb (cond b m d) (cond b m u)))
     ≡ bit (agree u (cond b m l) && not (eqb d u))
 ref_cell false d u l m h = omega arith
-ref_cell true d u l m h = rw (eq-eqb m m refl, and_false) (go (eqb u m) refl)
+ref_cell true d u l m h = rw (eq-eqb m m refl, and-false) (go (eqb u m) refl)
   where
     go : (b : Bool) → eqb u m ≡ b → bit (eqb u m && not (eqb d m)) + 0 ≡ bit (agree u m && not (eqb d u))
     go true e = rw (e, eqb-true u m e, ne_eqb m nothing h) (omega arith)
@@ -95,10 +95,10 @@ module _ (k : Cache) where
   gap_same fs u l a eu = sum_cong k.width _ _ (λ c q. same_cell fs u l c q eu (effect k Real fs c q a))
 
   gap_self : (u l : List ℕ) → gap k u u l ≡ 0
-  gap_self u l = sum_zero k.width _ (λ c q. rw (eq-eqb (held u c) (held u c) refl, and_false))
+  gap_self u l = sum_zero k.width _ (λ c q. rw (eq-eqb (held u c) (held u c) refl, and-false))
 
   gap_from_empty : (d l : List ℕ) → gap k d (empty_row k) l ≡ 0
-  gap_from_empty d l = sum_zero k.width _ (λ c q. rw (held-empty_row k c q, eq-eqb nothing nothing refl, and_false))
+  gap_from_empty d l = sum_zero k.width _ (λ c q. rw (held-empty_row k c q, eq-eqb nothing nothing refl, and-false))
 
   agree_nothing : (r : ℕ) → agree r nothing ≡ false
   agree_nothing r = go (eqb r nothing)

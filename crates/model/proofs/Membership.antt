@@ -2,7 +2,7 @@
 -- Each is an induction on the list, over any type whose test is equality.
 use mathlib.Core.Path.{◌≡◌, refl, sym, ap, ◌∙◌}
 use mathlib.Core.Logic.{◌⊎◌, inl, inr}
-use mathlib.Core.Bool.{Bool, ◌||◌, true, false, ◌&&◌, cond, or_false, or_assoc, true≢false, false≢true}
+use mathlib.Core.Bool.{Bool, ◌||◌, true, false, ◌&&◌, cond, or-false, or_assoc, true≢false, false≢true}
 use mathlib.Core.List.{List, [], ◌∷◌, ◌++◌, map}
 use Prim.Native.Nat.{ℕ, zero, suc, ◌*◌, ◌<◌}
 use native.Mathlib.Omega.{arith}
@@ -68,7 +68,7 @@ same_state_true x y e = λ i. (p i, q i)
     q = same_list_true x.1 y.1 (both_right (eqb x.0 y.0) (same_list x.1 y.1) e)
 
 pub mem_more : (x m : ℕ) (ms : List ℕ) → mem eqb x (ms ++ (m ∷ [])) ≡ (mem eqb x ms || eqb x m)
-mem_more x m [] = or_false (eqb x m)
+mem_more x m [] = or-false (eqb x m)
 mem_more x m (y ∷ ms) = ap (λ (b : Bool). eqb x y || b) (mem_more x m ms) ∙ sym (or_assoc (eqb x y) (mem eqb x ms) (eqb x m))
 
 module _ {A : Type 0} (eq : A → A → Bool) (eq_self : (x : A) → eq x x ≡ true) (eq-true : (x y : A) → eq x y ≡ true → x ≡ y) where

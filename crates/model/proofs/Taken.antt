@@ -3,7 +3,7 @@
 -- references done.
 use mathlib.Core.Path.{◌≡◌, refl, sym, ap, ◌∙◌}
 use mathlib.Core.Logic.{◌⊎◌, inl, inr}
-use mathlib.Core.Bool.{Bool, true, false, ◌&&◌, and_false, cond}
+use mathlib.Core.Bool.{Bool, true, false, ◌&&◌, and-false, cond}
 use mathlib.Core.List.{List, [], ◌∷◌, ◌++◌}
 use Prim.Native.Nat.{ℕ, zero, suc, ◌+◌, ◌≤◌, ◌<◌}
 use native.Mathlib.Nat.{zero-add}
@@ -40,11 +40,11 @@ same i d j e = eqb i j && eqb d e
 
 pub before_differs : (i d j e : ℕ) → Before i d j e → same i d j e ≡ false
 before_differs i d j e (inl a) = rw (ne_eqb i j (λ q. omega arith))
-before_differs i d j e (inr (a, b)) = rw (ne_eqb d e (λ q. omega arith), and_false)
+before_differs i d j e (inr (a, b)) = rw (ne_eqb d e (λ q. omega arith), and-false)
 
 pub after_differs : (i d j e : ℕ) → Before j e i d → same i d j e ≡ false
 after_differs i d j e (inl a) = rw (ne_eqb i j (λ q. omega arith))
-after_differs i d j e (inr (a, b)) = rw (ne_eqb d e (λ q. omega arith), and_false)
+after_differs i d j e (inr (a, b)) = rw (ne_eqb d e (λ q. omega arith), and-false)
 
 -- each point of the list comes after the point (i, d)
 abbrev After : ℕ → ℕ → List Point → Type 0

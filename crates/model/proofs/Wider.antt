@@ -53,20 +53,20 @@ module _ {narrow broad : Policy} {rest : List ℕ} (h : Wider narrow broad rest)
   padded_all : (ms row : List ℕ) → length row ≡ narrow.size → refer_all broad (padded row) ms ≡ padded (refer_all narrow row ms)
   padded_all [] row e = refl
   padded_all (m ∷ ms) row e =
-      ap (λ (r : List ℕ). refer_all broad r ms) (h.refer-same row m e) ∙ padded_all ms (narrow.refer row m) (h.narrow-lawful.refer-size row m e)
+      ap (λ (r : List ℕ). refer_all broad r ms) (h.refer_same row m e) ∙ padded_all ms (narrow.refer row m) (h.narrow_lawful.refer-size row m e)
 
   padded_ahead : (ms row : List ℕ) → length row ≡ narrow.size → ahead broad ms (padded row) ≡ padded (ahead narrow ms row)
   padded_ahead [] row e = refl
   padded_ahead (m ∷ ms) row e =
-      ap (λ (r : List ℕ). broad.refer r m) (padded_ahead ms row e) ∙ h.refer-same (ahead narrow ms row) m (ahead-size narrow h.narrow-lawful ms row e)
+      ap (λ (r : List ℕ). broad.refer r m) (padded_ahead ms row e) ∙ h.refer_same (ahead narrow ms row) m (ahead-size narrow h.narrow_lawful ms row e)
 
   pub run_row : (ms : List ℕ) → refer_all broad broad.first ms ≡ padded (refer_all narrow narrow.first ms)
-  run_row ms = ap (λ (r : List ℕ). refer_all broad r ms) h.first-same ∙ padded_all ms narrow.first h.narrow-lawful.first-size
+  run_row ms = ap (λ (r : List ℕ). refer_all broad r ms) h.first_same ∙ padded_all ms narrow.first h.narrow_lawful.first-size
 
   pub next_row : (ms : List ℕ) → broad.next ms ≡ padded (narrow.next ms)
   next_row ms =
-      h.broad-lawful.next-is ms ∙ ap (ahead broad ms) h.first-same ∙ padded_ahead ms narrow.first h.narrow-lawful.first-size
-      ∙ ap padded (sym (h.narrow-lawful.next-is ms))
+      h.broad_lawful.next-is ms ∙ ap (ahead broad ms) h.first_same ∙ padded_ahead ms narrow.first h.narrow_lawful.first-size
+      ∙ ap padded (sym (h.narrow_lawful.next-is ms))
 
   -- ---- states: a row of the narrow cache behind a row of the broad one
 
@@ -79,7 +79,7 @@ module _ {narrow broad : Policy} {rest : List ℕ} (h : Wider narrow broad rest)
   behind-run : (P : List ℕ → Type 0) (ms row : List ℕ) → P (refer_all narrow narrow.first ms) → row ≡ refer_all broad broad.first ms → Behind P row
   behind-run P ms row p e = record {
     inner = refer_all narrow narrow.first ms;
-    long = run-size narrow h.narrow-lawful ms (refer_all narrow narrow.first ms) refl;
+    long = run-size narrow h.narrow_lawful ms (refer_all narrow narrow.first ms) refl;
     holds = p;
     same = e ∙ run_row ms;
   }
@@ -87,7 +87,7 @@ module _ {narrow broad : Policy} {rest : List ℕ} (h : Wider narrow broad rest)
   behind-next : (P : List ℕ → Type 0) (ms row : List ℕ) → P (narrow.next ms) → row ≡ broad.next ms → Behind P row
   behind-next P ms row p e = record {
     inner = narrow.next ms;
-    long = next-size narrow h.narrow-lawful ms (narrow.next ms) refl;
+    long = next-size narrow h.narrow_lawful ms (narrow.next ms) refl;
     holds = p;
     same = e ∙ next_row ms;
   }
@@ -124,13 +124,13 @@ module _ {narrow broad : Policy} {rest : List ℕ} (h : Wider narrow broad rest)
 
     pub reaching_wider : reaching_on broad t b ≡ map (λ (r : List ℕ). r ++ rest) (reaching_on narrow t b)
     reaching_wider =
-        same (reaching_on narrow t b) (ReachesOn narrow t b) (ReachesOn broad t b) (any-reaching-rising narrow h.narrow-lawful t b) (any-reaching-rows narrow h.narrow-lawful t b)
-        (reaches-size narrow h.narrow-lawful t b) (reaches_broad t b) (reaches-narrow t b) (reaching_on broad t b) (any-reaching-rising broad h.broad-lawful t b) (any-reaching-rows broad h.broad-lawful t b)
+        same (reaching_on narrow t b) (ReachesOn narrow t b) (ReachesOn broad t b) (any-reaching-rising narrow h.narrow_lawful t b) (any-reaching-rows narrow h.narrow_lawful t b)
+        (reaches-size narrow h.narrow_lawful t b) (reaches_broad t b) (reaches-narrow t b) (reaching_on broad t b) (any-reaching-rising broad h.broad_lawful t b) (any-reaching-rows broad h.broad_lawful t b)
 
     pub living_wider : living_on broad t b ≡ map (λ (r : List ℕ). r ++ rest) (living_on narrow t b)
     living_wider =
-        same (living_on narrow t b) (LivesOn narrow t b) (LivesOn broad t b) (any-living-rising narrow h.narrow-lawful t b) (any-living-rows narrow h.narrow-lawful t b)
-        (lives-size narrow h.narrow-lawful t b) (lives_broad t b) (lives-narrow t b) (living_on broad t b) (any-living-rising broad h.broad-lawful t b) (any-living-rows broad h.broad-lawful t b)
+        same (living_on narrow t b) (LivesOn narrow t b) (LivesOn broad t b) (any-living-rising narrow h.narrow_lawful t b) (any-living-rows narrow h.narrow_lawful t b)
+        (lives-size narrow h.narrow_lawful t b) (lives_broad t b) (lives-narrow t b) (living_on broad t b) (any-living-rising broad h.broad_lawful t b) (any-living-rows broad h.broad_lawful t b)
 
     -- how many states a block has, and so check 11
     pub count-reaching_wider : length (reaching_on broad t b) ≡ length (reaching_on narrow t b)
@@ -179,8 +179,8 @@ module _ {narrow broad : Policy} {rest : List ℕ} (h : Wider narrow broad rest)
           },
           refl,
           refl,
-          same_count x.reaching x.live x.ending (run-size narrow h.narrow-lawful ms x.reaching er) (next-size narrow h.narrow-lawful ks x.live el)
-              (run-size narrow h.narrow-lawful (references j (0 ∷ q)) x.ending ef),
+          same_count x.reaching x.live x.ending (run-size narrow h.narrow_lawful ms x.reaching er) (next-size narrow h.narrow_lawful ks x.live el)
+              (run-size narrow h.narrow_lawful (references j (0 ∷ q)) x.ending ef),
         )
 
     abbrev number : ℕ
@@ -188,8 +188,8 @@ module _ {narrow broad : Policy} {rest : List ℕ} (h : Wider narrow broad rest)
 
     broad_most : MostOn v' broad i j (Allows i) number
     broad_most = record {
-      bound = λ x free. let (y, at, done, e) = to_narrow x in omega (arith, (any-allowed-most v narrow h.narrow-lawful i j).bound y (rw (at, done) free));
-      attained = go (any-allowed-most v narrow h.narrow-lawful i j).attained;
+      bound = λ x free. let (y, at, done, e) = to_narrow x in omega (arith, (any-allowed-most v narrow h.narrow_lawful i j).bound y (rw (at, done) free));
+      attained = go (any-allowed-most v narrow h.narrow_lawful i j).attained;
     }
       where
         go : (number ≡ 0) ⊎ ((x : RowsOn narrow i j) × Allows i x.at x.done × (counted v x ≡ number))
@@ -199,39 +199,39 @@ module _ {narrow broad : Policy} {rest : List ℕ} (h : Wider narrow broad rest)
 
     -- the pair number
     pub number_wider : most_on v' broad i j (allowed i) ≡ most_on v narrow i j (allowed i)
-    number_wider = any-most_unique v' broad h.broad-lawful i j (Allows i) (most_on v' broad i j (allowed i)) number (any-allowed-most v' broad h.broad-lawful i j) broad_most
+    number_wider = any-most_unique v' broad h.broad_lawful i j (Allows i) (most_on v' broad i j (allowed i)) number (any-allowed-most v' broad h.broad_lawful i j) broad_most
 
   -- ---- counts of runs
 
   events_wider : (es : List Event) (row : List ℕ) → length row ≡ narrow.size → disturbed_on broad (padded row) es ≡ disturbed_on narrow row es
   events_wider [] row e = refl
   events_wider (Ref m ∷ es) row e =
-      ap₂ (λ (x y : ℕ). x + y) (ap (λ f. bit (not f)) (h.found-same row m e))
-      (ap (λ (r : List ℕ). disturbed_on broad r es) (h.refer-same row m e) ∙ events_wider es (narrow.refer row m) (h.narrow-lawful.refer-size row m e))
+      ap₂ (λ (x y : ℕ). x + y) (ap (λ f. bit (not f)) (h.found_same row m e))
+      (ap (λ (r : List ℕ). disturbed_on broad r es) (h.refer_same row m e) ∙ events_wider es (narrow.refer row m) (h.narrow_lawful.refer-size row m e))
   events_wider (Preempt fs ∷ es) row e =
-      ap (λ (r : List ℕ). disturbed_on broad r es) (padded_all fs row e) ∙ events_wider es (refer_all narrow row fs) (all-size narrow h.narrow-lawful fs row e)
+      ap (λ (r : List ℕ). disturbed_on broad r es) (padded_all fs row e) ∙ events_wider es (refer_all narrow row fs) (all-size narrow h.narrow_lawful fs row e)
 
   lost_events_wider : (es : List Event) (d u : List ℕ) → length d ≡ narrow.size → length u ≡ narrow.size → lost_on broad (padded d) (padded u) es ≡ lost_on narrow d u es
   lost_events_wider [] d u ed eu = refl
   lost_events_wider (Ref m ∷ es) d u ed eu =
-      ap₂ (λ (x y : ℕ). x + y) (ap₂ (λ f g. bit (f && not g)) (h.found-same u m eu) (h.found-same d m ed))
-      (ap₂ (λ (x y : List ℕ). lost_on broad x y es) (h.refer-same d m ed) (h.refer-same u m eu)
-      ∙ lost_events_wider es (narrow.refer d m) (narrow.refer u m) (h.narrow-lawful.refer-size d m ed) (h.narrow-lawful.refer-size u m eu))
+      ap₂ (λ (x y : ℕ). x + y) (ap₂ (λ f g. bit (f && not g)) (h.found_same u m eu) (h.found_same d m ed))
+      (ap₂ (λ (x y : List ℕ). lost_on broad x y es) (h.refer_same d m ed) (h.refer_same u m eu)
+      ∙ lost_events_wider es (narrow.refer d m) (narrow.refer u m) (h.narrow_lawful.refer-size d m ed) (h.narrow_lawful.refer-size u m eu))
   lost_events_wider (Preempt fs ∷ es) d u ed eu =
-      ap (λ (r : List ℕ). lost_on broad r (padded u) es) (padded_all fs d ed) ∙ lost_events_wider es (refer_all narrow d fs) u (all-size narrow h.narrow-lawful fs d ed) eu
+      ap (λ (r : List ℕ). lost_on broad r (padded u) es) (padded_all fs d ed) ∙ lost_events_wider es (refer_all narrow d fs) u (all-size narrow h.narrow_lawful fs d ed) eu
 
   -- the misses of references, U and D, and the lost hits, all from the empty cache
   pub misses_wider : (ms : List ℕ) → misses_on broad broad.first ms ≡ misses_on narrow narrow.first ms
   misses_wider ms =
-      ap (λ (r : List ℕ). misses_on broad r ms) h.first-same
-      ∙ omega (arith, refs_misses broad [] ms (padded narrow.first) [], refs_misses narrow [] ms narrow.first [], events_wider (refs ms []) narrow.first h.narrow-lawful.first-size)
+      ap (λ (r : List ℕ). misses_on broad r ms) h.first_same
+      ∙ omega (arith, refs_misses broad [] ms (padded narrow.first) [], refs_misses narrow [] ms narrow.first [], events_wider (refs ms []) narrow.first h.narrow_lawful.first-size)
 
   pub count_wider : (ts : List Task) (t : Task) (path : List ℕ) (xs : List Preemption) → count_at_end_on broad ts t path xs ≡ count_at_end_on narrow ts t path xs
   count_wider ts t path xs =
-      any-count_events broad ts t path xs ∙ ap (λ (r : List ℕ). disturbed_on broad r (run_events ts xs (points t 0 path))) h.first-same
-      ∙ events_wider (run_events ts xs (points t 0 path)) narrow.first h.narrow-lawful.first-size ∙ sym (any-count_events narrow ts t path xs)
+      any-count_events broad ts t path xs ∙ ap (λ (r : List ℕ). disturbed_on broad r (run_events ts xs (points t 0 path))) h.first_same
+      ∙ events_wider (run_events ts xs (points t 0 path)) narrow.first h.narrow_lawful.first-size ∙ sym (any-count_events narrow ts t path xs)
 
   pub lost_wider : (es : List Event) → lost_on broad broad.first broad.first es ≡ lost_on narrow narrow.first narrow.first es
   lost_wider es =
-      ap (λ (r : List ℕ). lost_on broad r r es) h.first-same
-      ∙ lost_events_wider es narrow.first narrow.first h.narrow-lawful.first-size h.narrow-lawful.first-size
+      ap (λ (r : List ℕ). lost_on broad r r es) h.first_same
+      ∙ lost_events_wider es narrow.first narrow.first h.narrow_lawful.first-size h.narrow_lawful.first-size

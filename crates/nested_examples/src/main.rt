@@ -1,4 +1,6 @@
 // Prints what Nested replay answers: totals of runs within runs, and what its checks refuse.
+#![tactic(auto)]
+
 use example_files::{APART, AROUND, EIGHT, THREE};
 use libc::STDOUT_FILENO;
 use nested_replay::{NestedReplaying, nested_replay};

@@ -122,7 +122,7 @@ nested_replayed s h run f =
 
 module _ (s : List ℕ) (h : accepted (reading_of s) ≡ true) where
   few : task_count s ≤ 8
-  few = (passing s (accepted-passed s (cache_blocks s) (task_count s) (reading s h)).0).t-high
+  few = (passing s (accepted-passed s (cache_blocks s) (task_count s) (reading s h)).0).t_high
 
   head_below : (p : ℕ) (path : Path) (count : ℕ) (list : List ℕ) → p < length (tasks_of s) → length path ≤ longest_path → All (λ (x : ℕ). x < 65536) path → count ≤ 16
       → All (λ (x : ℕ). x < 65536) list → All (λ (x : ℕ). x < 65536) (with_head p path count list)

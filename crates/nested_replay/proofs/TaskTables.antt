@@ -24,7 +24,7 @@ use Rattle.sheet.proofs.StepLaws.{complete-by-sets}
 use Rattle.task_maps.specs.TaskMaps.{HasStarts, HasJumps, HasUnmasked}
 
 pub few_tasks : (s : List ℕ) → accepted (reading_of s) ≡ true → task_count s ≤ 8
-few_tasks s h = (passing s (accepted-passed s (cache_blocks s) (task_count s) (reading s h)).0).t-high
+few_tasks s h = (passing s (accepted-passed s (cache_blocks s) (task_count s) (reading s h)).0).t_high
 
 -- the 24 places of the task y
 abbrev pub task_part : ℕ → List ℕ → List ℕ

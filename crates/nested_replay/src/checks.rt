@@ -22,7 +22,7 @@ use sheet_checks::right_done;
 
 // What the pass tells of a run or a list: some path isn't complete or some number of references done is wrong; or it is right, and then the place
 // after it in the sheet and whether all its points lie in unmasked blocks.
-#[derive(Drop)]
+#[derive(Clone, Copy)]
 pub enum Checked {
     Wrong,
     Right { next: usize, unmasked: bool },

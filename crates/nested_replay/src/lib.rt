@@ -1,4 +1,6 @@
 // Nested replay: the misses of a run and of all runs within it, from an empty cache.
+#![tactic(auto)]
+
 mod checks;
 mod totals;
 
@@ -20,7 +22,7 @@ use task_maps::{all_jumps, all_starts, all_unmasked};
 use totals::total_misses;
 
 // What Nested replay answers: the misses of all runs, or the check that fails first and the task it names.
-#[derive(Drop)]
+#[derive(Clone, Copy)]
 pub enum NestedReplaying {
     Counted { total: u64 },
     Refused { check: u8, task: u8 },

@@ -20,14 +20,14 @@ use runs::part::{PathPoint, after_part, last_point};
 use runs::replay_cache::ReplayCache;
 
 // A cache row, and the misses of all runs so far: more than four bytes hold.
-#[derive(Drop)]
+#[derive(Clone, Copy)]
 pub struct TotalCache {
     pub cells: [u16; 32],
     pub misses: u64,
 }
 
 // The cache after a run or a list, and the place after it in the sheet.
-#[derive(Drop)]
+#[derive(Clone, Copy)]
 pub struct Totalled {
     pub cache: TotalCache,
     pub next: usize,

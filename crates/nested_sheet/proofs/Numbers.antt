@@ -2,7 +2,7 @@
 -- The idea: an induction on the list of runs, with the runs around it.
 use mathlib.Core.Path.{◌≡◌, refl, sym, ap, ap₂, ◌∙◌}
 use mathlib.Core.Logic.{inl, inr, ◌≢◌}
-use mathlib.Core.Bool.{false, and_false}
+use mathlib.Core.Bool.{false, and-false}
 use mathlib.Core.List.{List, [], ◌∷◌, ◌++◌, append-nil, append_assoc}
 use Prim.Native.Nat.{ℕ, zero, suc, ◌+◌, ◌-◌, ◌≤◌, ◌<◌}
 use native.Mathlib.Numerals.{sub-one}
@@ -56,7 +56,7 @@ module _ (t : ℕ) where
       where
         go : (c : ℕ) → c ≤ 16 → ((0 < c) → length around ≢ deepest) → check_of t (a_count p (length path) around) c ≡ 0
         go zero l h = refl
-        go (suc c) l h = rw (le-leb (suc c) 16 l, ne_eqb (length around) deepest (h (omega arith)), and_false)
+        go (suc c) l h = rw (le-leb (suc c) 16 l, ne_eqb (length around) deepest (h (omega arith)), and-false)
 
     head_leads_on : first_fault t (a_task around) (with_head p path count rest) ≡ first_fault t (going_on (frame p (length path) count 0 0 ∷ around)) rest
     head_leads_on =
@@ -74,7 +74,7 @@ module _ (t : ℕ) where
 
   done-right : (a : Around) (around : List Around) (i d : ℕ) → NotBefore a.position a.done i d → check_of t (a_done i a around) d ≡ 0
   done-right a around i d (inl h) = rw (ne_eqb i a.position (λ e. omega (arith, e, h)))
-  done-right a around i d (inr (h, k)) = rw (le-ltb d a.done k, and_false)
+  done-right a around i d (inr (h, k)) = rw (le-ltb d a.done k, and-false)
 
   -- a list may have runs only where the depth allows it
   shallow_by : (left : ℕ) (tasks : List ℕ) (xs : RunList) (n : ℕ) → ListWithin left tasks xs → n + left ≡ deepest → 0 < how_many xs → n ≢ deepest
@@ -155,8 +155,8 @@ module _ (s : Sheet) where
       let head = head_at (at + 2) by path (how_many own) (list_numbers own ++ (list_numbers rest ++ zs)) (further at (x ∷ y ∷ []) e ∙ head_apart by path (how_many own) (list_numbers own) (list_numbers rest) zs) in
       let begin = list_start s (at + 2) in
       let inner : list_of deep s (count_at s (at + 2)) begin ≡ list_at own (begin + length (list_numbers own))
-      = ap (λ (c : ℕ). list_of deep s c begin) head.is-count ∙ list_of_lem own deep begin (by ∷ around) (list_numbers rest ++ zs) wo head.after-head in
-      let outer = list_of_lem rest (suc deep) (begin + length (list_numbers own)) around zs wr (further begin (list_numbers own) head.after-head) in
+      = ap (λ (c : ℕ). list_of deep s c begin) head.is-count ∙ list_of_lem own deep begin (by ∷ around) (list_numbers rest ++ zs) wo head.after_head in
+      let outer = list_of_lem rest (suc deep) (begin + length (list_numbers own)) around zs wr (further begin (list_numbers own) head.after_head) in
       let ends : begin + length (list_numbers own) + length (list_numbers rest) ≡ at + length (list_numbers (a_run x y by path own rest))
       = omega (arith, head.start, length-append (with_head by path (how_many own) (list_numbers own)) (list_numbers rest), length-append path (how_many own ∷ list_numbers own)) in
       ap (λ (own' : ListAt). with_run s at own' (runs_of (list_of deep s) s (how_many rest) own'.next)) inner
@@ -172,6 +172,6 @@ run_of-numbers t r h =
     let head = head_at s 0 r.p r.path (how_many r.runs) (list_numbers r.runs) refl in
     let list : own_list deepest s 0 ≡ list_at r.runs (list_start s 0 + length (list_numbers r.runs))
     = ap (λ (c : ℕ). list_of deepest s c (list_start s 0)) head.is-count
-    ∙ list_of_lem s r.runs deepest (list_start s 0) (r.p ∷ []) [] h.within (head.after-head ∙ sym (append-nil (list_numbers r.runs))) in
+    ∙ list_of_lem s r.runs deepest (list_start s 0) (r.p ∷ []) [] h.within (head.after_head ∙ sym (append-nil (list_numbers r.runs))) in
     ap₂ (λ (p : ℕ) (path : List ℕ). record { p = p; path = path; runs = (own_list deepest s 0).runs }) head.is-task head.is-path
     ∙ ap (λ (x : ListAt). record { p = r.p; path = r.path; runs = x.runs }) list

@@ -2,7 +2,7 @@
 -- The idea: the numbers from a place on have the fault of the run or list that begins there, or, where that ends without one, the fault of the numbers
 -- after it; an induction on the depth, and for each depth on the runs that are left of a list.
 use mathlib.Core.Path.{◌≡◌, refl, sym, ap, ◌∙◌}
-use mathlib.Core.Bool.{Bool, true, false, not, ◌&&◌, ◌||◌, cond, or_comm, and_false, and_assoc}
+use mathlib.Core.Bool.{Bool, true, false, not, ◌&&◌, ◌||◌, cond, or_comm, and-false, and_assoc}
 use mathlib.Core.List.{List, [], ◌∷◌}
 use Prim.Native.Nat.{ℕ, zero, suc, ◌+◌, ◌-◌, ◌^◌}
 use native.Mathlib.Omega.{arith}
@@ -233,7 +233,7 @@ unfolding list_end
 list_agrees t zero around s stack j long zero i d at h e = refl
 list_agrees t zero around s stack j long (suc left) i d at h e = rw (le-leb 1 (suc left) (omega arith), eq-eqb (length stack) deepest (omega arith))
 list_agrees t (suc deep) around s stack j long left i d at h e =
-    rw (ne_eqb (length stack) deepest (omega arith), and_false (leb 1 left))
+    rw (ne_eqb (length stack) deepest (omega arith), and-false (leb 1 left))
     (runs_agree t s stack j long _ (λ left i d x. run-from t around s (frame j long left i d ∷ stack) x (list_end t deep (bit_or around (2 ^ get_or s x 0)) s) h
     (list_agrees t deep (bit_or around (2 ^ get_or s x 0)) s (frame j long left i d ∷ stack) (get_or s x 0) (get_or s (x + 1) 0) (get_or s (x + 2 + get_or s (x + 1) 0) 0) 0 0
     (x + 3 + get_or s (x + 1) 0) (more_tasks around (get_or s x 0) (j ∷ tasks_of stack) h) (omega arith))) left i d at)

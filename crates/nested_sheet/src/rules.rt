@@ -13,7 +13,7 @@ const DEEPEST: usize = 7;
 const RUNS: usize = 16;
 
 // Where a run or a list ends: the place after it, or the check that its first number at fault is against.
-#[derive(Drop)]
+#[derive(Clone, Copy)]
 pub enum End {
     At { next: usize },
     Fault { check: u8 },

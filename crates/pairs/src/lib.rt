@@ -1,2 +1,4 @@
 // The numbers of one task against all tasks at one point, from gathered rows.
+#![tactic(auto)]
+
 pub mod numbers;

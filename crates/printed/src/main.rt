@@ -1,4 +1,6 @@
 // Prints what crpd prints for some files, each after a line that names the file.
+#![tactic(auto)]
+
 ghost use Rattle.std.specs.Prelude.{◌<◌};
 
 use example_files::{

@@ -114,7 +114,7 @@ pub file-holds : (w : ℕ) → 16 ≤ w → (s : List ℕ) {shape : CacheShape} 
 file-holds w h s p e =
     let is = passing s p in
     let same = ap (λ (x : CacheShape). x.blocks) e in
-    record { some = omega (arith, same, is.n-low); room = omega (arith, same, is.n-high, is.k-high) }
+    record { some = omega (arith, same, is.n_low); room = omega (arith, same, is.n_high, is.k_high) }
 
 -- ---- an accepted file written again
 
@@ -123,13 +123,13 @@ head_read : (e : ℕ) (s : List ℕ) → Passing e s → bodies_start (edition s
     → s ≡ head_of (edition s) (cache_blocks s) (task_count s) ++ drop (contents_start (edition s)) s
 head_read e s p h =
     let l = p.long in
-    let low = p.k-low in
+    let low = p.k_low in
     let sum : contents_start (edition s) ≡ 8 + reserve (edition s) = omega arith in
     let rest : drop 8 s ≡ replicate (reserve (edition s)) 0 ++ drop (contents_start (edition s)) s
     = sym (take-append-drop (reserve (edition s)) (drop 8 s)) ∙ ap (λ x. x ++ drop (reserve (edition s)) (drop 8 s)) p.zeros
     ∙ ap (λ x. replicate (reserve (edition s)) 0 ++ x) (drop-drop (reserve (edition s)) 8 s ∙ ap (λ k. drop k s) (sym sum)) in
     sym (take-append-drop 4 s)
-    ∙ rw (p.marked, drop-cons s 4 0 (omega arith), drop-cons s 5 0 (omega arith), drop-cons s 6 0 (omega arith), drop-cons s 7 0 (omega arith), p.zero-byte)
+    ∙ rw (p.marked, drop-cons s 4 0 (omega arith), drop-cons s 5 0 (omega arith), drop-cons s 6 0 (omega arith), drop-cons s 7 0 (omega arith), p.zero_byte)
     (ap (λ x. mark ++ (edition s ∷ cache_blocks s ∷ task_count s ∷ 0 ∷ x)) rest)
 
 pub fit_long : (s : List ℕ) (left j at : ℕ) → contents_fit s left j at ≡ true → at ≤ length s

@@ -7,7 +7,7 @@ use mathlib.Core.List.{List, [], map}
 use Prim.Native.Nat.{ℕ, zero, suc, ◌<◌}
 use native.Mathlib.Omega.{arith}
 use lib.ListN.{length, get_or}
-use borrow.Author.Tests.{not_true, not-false}
+use borrow.Author.Tests.{not-true, not-false}
 use Rattle.cache.specs.References.{All}
 use Rattle.model.specs.Tasks.{Task, OnCompletePath}
 use Rattle.model.specs.OnPath.{on_path, on_path_below, all_on_path}
@@ -33,7 +33,7 @@ kept-task b e = go (decode b) refl (not-false (kept_of (decode b)) e)
     go (decoded t) q k = (t, q)
 
 broken-body : (b : List ℕ) → test8 b ≡ true → decode b ≡ broken
-broken-body b e = go (decode b) refl (not_true (kept_of (decode b)) e)
+broken-body b e = go (decode b) refl (not-true (kept_of (decode b)) e)
   where
     go : (d : Decoded) → decode b ≡ d → kept_of (decode b) ≡ false → decode b ≡ broken
     go broken q k = q
@@ -64,7 +64,7 @@ exact9 b h k = (there, λ f. go f (test9 b) refl)
     there e =
         let (t, q) = kept-task b k in
         let (i, z) = decoded_layout b t h q in
-        let (n, m, f) = off_path t (length t) (not_true (all_on_path t) (rw q at e)) in
+        let (n, m, f) = off_path t (length t) (not-true (all_on_path t) (rw q at e)) in
         (t, z, i, n, m, f)
 
     go : Fault9 b → (s : Bool) → test9 b ≡ s → test9 b ≡ true

@@ -8,7 +8,7 @@ use Prim.Native.Nat.{ℕ, zero, suc, ◌*◌, ◌≤◌, ◌<◌}
 use native.Mathlib.Omega.{arith}
 use lib.Dec.{eqb, ltb}
 use lib.ListN.{length, get_or, take, drop, replicate}
-use borrow.Author.Tests.{eqb-false, ne_eqb, ltb-true, ltb-false, lt-ltb, not_true}
+use borrow.Author.Tests.{eqb-false, ne_eqb, ltb-true, ltb-false, lt-ltb, not-true}
 use Rattle.model.specs.Computed.{same_list}
 use Rattle.model.proofs.Membership.{or_cases, or_left, or_right, same_list_self, same_list_true}
 use Rattle.body.proofs.BlockParts.{all_take, all_drop}
@@ -40,7 +40,7 @@ outside_exact a b c d = (there, back)
 
 -- two different numbers
 pub differ_exact : (a b : ℕ) → (not (eqb a b) ≡ true) ↔ (a ≢ b)
-differ_exact a b = (λ e. eqb-false a b (not_true (eqb a b) e), λ h. ap not (ne_eqb a b h))
+differ_exact a b = (λ e. eqb-false a b (not-true (eqb a b) e), λ h. ap not (ne_eqb a b h))
 
 -- one of two tests
 pub either_exact : {A B : Type 0} (a b : Bool) → ((a ≡ true) ↔ A) → ((b ≡ true) ↔ B) → ((a || b) ≡ true) ↔ (A ⊎ B)
@@ -58,7 +58,7 @@ pub lists_exact : (a b : List ℕ) → (not (same_list a b) ≡ true) ↔ (a ≢
 lists_exact a b = (there, λ f. go (same_list a b) refl f)
   where
     there : not (same_list a b) ≡ true → a ≢ b
-    there e q = true≢false (sym (rw q (same_list_self b)) ∙ not_true (same_list a b) e)
+    there e q = true≢false (sym (rw q (same_list_self b)) ∙ not-true (same_list a b) e)
 
     go : (x : Bool) → same_list a b ≡ x → (a ≢ b) → not x ≡ true
     go true e f = absurd (f (same_list_true a b e))
@@ -89,7 +89,7 @@ exact7 s none = (there, λ f. go (contents_fit s (task_count s) 0 (bodies_start 
         at_least false e = ltb-false (task_count s) 1 e
 
     there : test7 s ≡ true → Fault7 s
-    there e c = true≢false (sym ((contents_exact s some).1 c) ∙ not_true (contents_fit s (task_count s) 0 (bodies_start (edition s) (task_count s))) e)
+    there e c = true≢false (sym ((contents_exact s some).1 c) ∙ not-true (contents_fit s (task_count s) 0 (bodies_start (edition s) (task_count s))) e)
 
     go : (b : Bool) → contents_fit s (task_count s) 0 (bodies_start (edition s) (task_count s)) ≡ b → Fault7 s → not b ≡ true
     go true e f = absurd (f ((contents_exact s some).0 e))

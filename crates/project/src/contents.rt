@@ -8,7 +8,7 @@ use crate::head::contents_start;
 use cache::references::number_at;
 
 // Whether the contents are as they should be, and then where the first body begins and where each body ends.
-#[derive(Drop)]
+#[derive(Clone, Copy)]
 pub struct BodyEnds {
     pub fit: bool,
     pub ends: [usize; 9],

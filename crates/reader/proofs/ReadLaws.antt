@@ -100,7 +100,7 @@ inside_up_to e s {n} {t} q j l =
     let at = bodies_start (edition s) (task_count s) in
     record {
       below = h;
-      few = p.t-high;
+      few = p.t_high;
       entry = omega (arith, fit_within s (task_count s) 0 at p.fit);
       ending = omega (arith, end-next s (task_count s) at j h, end_offset s (task_count s) at p.fit j h, end-inside s (task_count s) at p.fit (suc j) h);
     }

@@ -64,8 +64,8 @@ task-body s h j l =
       in_file = body-inside s e j l;
       kept = not-false (kept_of (decode (body_of s j))) (rw at at fine);
       same = task_in (bodies s) j ∙ ap (λ (b : List ℕ). task_of (decode b)) at;
-      low = p.n-low;
-      high = omega (arith, p.n-high, p.k-high);
+      low = p.n_low;
+      high = omega (arith, p.n_high, p.k_high);
     }
 
 -- a task of an accepted file is within the bounds

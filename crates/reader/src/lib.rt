@@ -1,4 +1,6 @@
 // Reader and Body: a project file read, and the body of a task in it.
+#![tactic(auto)]
+
 pub mod tasks;
 
 ghost use Rattle.std.specs.Prelude.{◌≡◌, true, ◌+◌, ◌≤◌, ◌<◌, length};
@@ -56,7 +58,7 @@ pub fn file_shape(file: &[u8]) -> CacheShape
 }
 
 // Where a part of a file stands, and how long it is.
-#[derive(Drop)]
+#[derive(Clone, Copy)]
 pub struct BodyPlace {
     pub start: usize,
     pub length: usize,

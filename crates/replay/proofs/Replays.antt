@@ -131,11 +131,11 @@ module _ (s : List ℕ) (h : accepted (reading_of s) ≡ true) where
   )
     where
       few : task_count s ≤ 8
-      few = (passing s (accepted-passed s (cache_blocks s) (task_count s) (reading s h)).0).t-high
+      few = (passing s (accepted-passed s (cache_blocks s) (task_count s) (reading s h)).0).t_high
 
   pub sheet_two_bytes : (run : DisturbedRun (tasks_of s)) → Fits (tasks_of s) run → All (λ (x : ℕ). x < 65536) (sheet_numbers (sheet_run (tasks_of s) run))
   sheet_two_bytes run f = (
-    omega (arith, run.there, tasks_long s, (passing s (accepted-passed s (cache_blocks s) (task_count s) (reading s h)).0).t-high),
+    omega (arith, run.there, tasks_long s, (passing s (accepted-passed s (cache_blocks s) (task_count s) (reading s h)).0).t_high),
     (
       omega (arith, f.short),
       all_join (λ (x : ℕ). x < 65536) run.path (length run.preemptions ∷ preemption_numbers run.preemptions)

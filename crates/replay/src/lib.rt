@@ -1,4 +1,6 @@
 // Replay: the misses of a run, without and with its preemptions, and the hits that the preemptions cost.
+#![tactic(auto)]
+
 mod counts;
 
 ghost use Rattle.std.specs.Prelude.{◌≡◌};
@@ -14,7 +16,7 @@ use sheet_checks::check_sheet;
 
 // What Replay answers: the misses of the run's own references without and with the preemptions, and the lost hits, which are own references
 // that hit without them and miss with them; or the check that fails first and the task it names.
-#[derive(Drop)]
+#[derive(Clone, Copy)]
 pub enum Replaying {
     Counted {
         undisturbed: u32,

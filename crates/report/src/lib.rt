@@ -1,4 +1,6 @@
 // What crpd prints for a file, as bytes.
+#![tactic(auto)]
+
 ghost use Rattle.std.specs.Prelude.{◌≡◌, ◌++◌, ◌≤◌, length, drop};
 ghost use Rattle.project.specs.Filling.{pick_filling};
 ghost use Rattle.report.specs.Printed.{checks_of, printed};
@@ -8,7 +10,7 @@ use table::table;
 use text::{refusal_text, table_text};
 
 // What is reported of a file: what Table answers for it, and the length of the text that is printed.
-#[derive(Drop)]
+#[derive(Clone, Copy)]
 pub struct Reported {
     pub answer: Filling,
     pub length: usize,

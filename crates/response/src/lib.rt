@@ -1,4 +1,6 @@
 // The response time of one task: the least number that meets the equation of document 02, Point 8, or 0 where there is none up to the deadline.
+#![tactic(auto)]
+
 ghost use Rattle.std.specs.Prelude.{◌≡◌, ℕ, ◌≤◌, ◌<◌, ◌+◌, ◌^◌, get_or, length};
 ghost use Rattle.response.specs.Response.{ceil, g, cost, demand, answer};
 ghost use Rattle.response.specs.Iteration.{load, earliest_of, Below};
@@ -7,7 +9,7 @@ ghost use Rattle.response.specs.Times.{late_mark, with_response, no_times, timed
 // A task's execution time, period and deadline, its response time, and the late mark: 1 where it is late, else 0. The mark is a byte, so that any
 // one that a C program leaves there can be read.
 #[repr(C)]
-#[derive(Drop)]
+#[derive(Clone, Copy)]
 pub struct Record {
     pub c: u32,
     pub t: u32,
@@ -17,7 +19,7 @@ pub struct Record {
 }
 
 // The times of up to eight tasks, and how many there are.
-#[derive(Drop)]
+#[derive(Clone, Copy)]
 pub struct Times {
     pub c: [u64; 8],
     pub t: [u64; 8],

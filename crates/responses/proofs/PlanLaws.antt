@@ -116,7 +116,7 @@ module _ (w : ℕ) (s area : List ℕ) (xs : List Record) (penalty : ℕ) where
       right false = refl
 
       go : (r : Check) → table_check w s area zeros ≡ r → and_then r (unless 21 no_task (test21 t xs penalty)) ≡ and_then r (unless 21 no_task (times_test21 t x penalty))
-      go Passed e = ap (unless 21 no_task) (same_21 (passing s (passed-file w s area zeros e)).t-high)
+      go Passed e = ap (unless 21 no_task) (same_21 (passing s (passed-file w s area zeros e)).t_high)
       go (Failed c a) e = refl
 
   pub plan_answer : (plan_of w s area x penalty).answer ≡ response_answer w s area xs penalty
@@ -138,7 +138,7 @@ module _ (w : ℕ) (s area : List ℕ) (xs : List Record) (penalty : ℕ) where
   all_planned e =
       let (p, q) = then_passed (table_check w s area zeros) (unless 21 no_task (times_test21 t x penalty)) e in
       let f = (unless-passed 21 no_task (times_test21 t x penalty) Passed (then_none (unless 21 no_task (times_test21 t x penalty)) ∙ q)).0 in
-      let h = (passing s (passed-file w s area zeros p)).t-high in
+      let h = (passing s (passed-file w s area zeros p)).t_high in
       let e1 = or_false_left (not (eqb x.count t)) (ltb 1000 penalty || any t (wrong_at x)) f in
       let e2 = or_false_right (not (eqb x.count t)) (ltb 1000 penalty || any t (wrong_at x)) f in
       let same : length xs ≡ t = sym count-is ∙ eqb-true x.count t (not-false (eqb x.count t) e1) in

@@ -14,7 +14,7 @@ use table::table;
 const LARGEST_PENALTY: u64 = 1000;
 
 // As many records as `count` says, the first ones, get their R by the other fields; where `answer` is a refusal that is none.
-#[derive(Drop)]
+#[derive(Clone, Copy)]
 pub struct Plan {
     pub times: Times,
     pub numbers: [u16; 64],

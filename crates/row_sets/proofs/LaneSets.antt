@@ -2,7 +2,7 @@
 -- The idea: after c cache blocks each set is that of the first c cache blocks of its row.
 use mathlib.Core.Path.{◌≡◌, refl, sym, ap, ap₂, ◌∙◌}
 use mathlib.Core.Logic.{◌≢◌, ◌⊎◌, inl, inr}
-use mathlib.Core.Bool.{Bool, true, false, cond, and-true, and_false}
+use mathlib.Core.Bool.{Bool, true, false, cond, and-true, and-false}
 use mathlib.Core.List.{List, map}
 use Prim.Native.Nat.{ℕ, zero, suc, ◌+◌, ◌*◌, ◌-◌, ◌^◌, ◌%◌, ◌≤◌, ◌<◌}
 use native.Mathlib.Nat.{not-suc-le-zero, zero-add, add-zero}
@@ -72,7 +72,7 @@ module _ (row rest lanes : List ℕ) where
 
   -- a cache block at which the row holds nothing changes no set
   pub lane_kept : (l c s : ℕ) → held row c ≡ nothing → s ≡ bits c (useful row (left l)) → s ≡ bits (c + 1) (useful row (left l))
-  lane_kept l c s e i = bits_skip c (useful row (left l)) i (rw (e, eq-eqb nothing nothing refl) (and_false (eqb nothing (held (left l) c)))) refl
+  lane_kept l c s e i = bits_skip c (useful row (left l)) i (rw (e, eq-eqb nothing nothing refl) (and-false (eqb nothing (held (left l) c)))) refl
 
   -- at another one the sets get its bit
   pub lane_marked : (l c s x m bit h : ℕ) → c < w → c < 32 → m ≡ held row c → m ≢ nothing → x ≡ held rest c → h ≡ held lanes (32 * c + l) → bit ≡ 1 * 2 ^ c % 2 ^ 32

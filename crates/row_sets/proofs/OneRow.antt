@@ -1,7 +1,7 @@
 -- One row and one set for all end rows: what some end row replaces in a row is where the end rows hold more than one memory block, and where the one row
 -- replaces it. Where the end rows hold one memory block only, it is that of the one row; where they hold more, one of them is not what the row holds.
 use mathlib.Core.Path.{◌≡◌, refl, sym, ap, ap₂, ◌∙◌}
-use mathlib.Core.Bool.{Bool, true, false, not, cond, ◌&&◌, ◌||◌, and_false, or_false, true≢false, false≢true}
+use mathlib.Core.Bool.{Bool, true, false, not, cond, ◌&&◌, ◌||◌, and-false, or-false, true≢false, false≢true}
 use mathlib.Core.Logic.{inl, inr}
 use mathlib.Core.List.{List, [], ◌∷◌, ◌++◌}
 use Prim.Native.Nat.{ℕ, zero, suc, ◌+◌, ◌-◌, ◌*◌, ◌<◌}
@@ -59,9 +59,9 @@ module _ (w : ℕ) (fs : List (List ℕ)) (one r : List ℕ) (is : OneOfThem w f
     where
       go : (b : Bool) → eqb (held one c) (held r c) ≡ b → (u : Bool) → used one c ≡ u → (some_replaces fs one c || replaces one r c) ≡ some_replaces fs r c
       go true e u q =
-          let none : replaces one r c ≡ false = rw e (and_false (used one c)) in
+          let none : replaces one r c ≡ false = rw e (and-false (used one c)) in
           ap (λ (x : Bool). some_replaces fs one c || x) none
-          ∙ or_false (some_replaces fs one c)
+          ∙ or-false (some_replaces fs one c)
           ∙ ap (λ (z : ℕ). any_row (λ (f : List ℕ). used f c && not (eqb (held f c) z)) fs) (eqb-true (held one c) (held r c) e)
       go false e true q =
           let here : replaces one r c ≡ true = rw (q, e) in
@@ -96,7 +96,7 @@ module _ (w : ℕ) (fs : List (List ℕ)) (one f : List ℕ) (is : OneOfThem w f
       record {
         wide = length-overlay one f ∙ is.wide;
         from = λ c u. from c (omega (arith, used-inside (overlay one f) c u, length-overlay one f, is.wide)) u (eqb (held f c) nothing) refl;
-        all = λ c l u. all c l (rw (any_append (λ (g : List ℕ). used g c) fs (f ∷ []), or_false (used f c)) at u) (eqb (held f c) nothing) refl;
+        all = λ c l u. all c l (rw (any_append (λ (g : List ℕ). used g c) fs (f ∷ []), or-false (used f c)) at u) (eqb (held f c) nothing) refl;
       }
     where
       from : (c : ℕ) → c < w → used (overlay one f) c ≡ true → (b : Bool) → eqb (held f c) nothing ≡ b → some_holds (fs ++ (f ∷ [])) c (held (overlay one f) c) ≡ true
@@ -110,7 +110,7 @@ module _ (w : ℕ) (fs : List (List ℕ)) (one f : List ℕ) (is : OneOfThem w f
       all : (c : ℕ) → c < w → (some_uses fs c || used f c) ≡ true → (b : Bool) → eqb (held f c) nothing ≡ b → used (overlay one f) c ≡ true
       all c l u true q =
           let same : held (overlay one f) c ≡ held one c = at c l ∙ rw q in
-          rw same (is.all c l (sym (or_false (some_uses fs c)) ∙ (rw q at u)))
+          rw same (is.all c l (sym (or-false (some_uses fs c)) ∙ (rw q at u)))
       all c l u false q =
           let same : held (overlay one f) c ≡ held f c = at c l ∙ rw q in
           rw (same, q)

@@ -1,6 +1,6 @@
 -- The sets that end rows replace: a turn of the passes over the end rows, and the count of the definitions.
 use mathlib.Core.Path.{◌≡◌, refl, sym, ap, ap₂, ◌∙◌}
-use mathlib.Core.Bool.{Bool, ◌||◌, or_assoc, or_false}
+use mathlib.Core.Bool.{Bool, ◌||◌, or_assoc, or-false}
 use mathlib.Core.List.{List, [], ◌∷◌, ◌++◌, map, map-append}
 use Prim.Native.Nat.{ℕ, ◌+◌, ◌-◌, ◌*◌, ◌<◌}
 use native.Mathlib.Numerals.{add-one}
@@ -31,7 +31,7 @@ module _ (test : List ℕ → ℕ → Bool) (w k : ℕ) (l : List ℕ) where
   any_more : (c : ℕ) → (any_row (λ (f : List ℕ). test f c) (rows_of w k l) || test row c) ≡ any_row (λ (f : List ℕ). test f c) (rows_of w (k + 1) l)
   any_more c =
       let t : List ℕ → Bool = λ (f : List ℕ). test f c in
-      ap (λ (x : Bool). any_row t (rows_of w k l) || x) (sym (or_false (test row c)))
+      ap (λ (x : Bool). any_row t (rows_of w k l) || x) (sym (or-false (test row c)))
       ∙ sym (any_append t (rows_of w k l) (row ∷ []))
       ∙ ap (any_row t) (sym (rows_more w k l))
 

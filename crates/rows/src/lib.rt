@@ -1,4 +1,6 @@
 // Rows of every width, sixteen numbers at a time, and the rows of one block, one after the other in a part of a list.
+#![tactic(auto)]
+
 ghost use Rattle.std.specs.Prelude.{◌≡◌, ◌+◌, ◌*◌, ◌%◌, ◌≤◌, length, take, drop};
 ghost use Rattle.model.specs.Lists.{mem};
 ghost use Rattle.model.specs.Computed.{same_list};
@@ -127,7 +129,7 @@ pub fn holds_row(part: &[u16], count: usize, row: &[u16]) -> bool
 }
 
 // What became of a row that was to be one of a block's rows.
-#[derive(Drop)]
+#[derive(Clone, Copy)]
 pub enum Appended {
     Present,
     Added,

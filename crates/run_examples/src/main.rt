@@ -1,5 +1,7 @@
 // Prints the runs that cost most of document 02, Points 3, 5 and 6: for two tasks of a file their pair number, the sheet that is written and its replay;
 // and what the call refuses.
+#![tactic(auto)]
+
 ghost use Rattle.std.specs.Prelude.{◌≡◌, ◌≤◌, ◌<◌, length};
 
 use area::AREA_LENGTH;

@@ -1,4 +1,6 @@
 // The sheet of a run that trails join to.
+#![tactic(auto)]
+
 ghost use Rattle.std.specs.Prelude.{◌≡◌, ◌∷◌, ◌++◌, ◌+◌, ◌≤◌, ◌<◌, length, drop};
 ghost use Rattle.sheet.specs.Sheet.{path_numbers, sheet_numbers};
 ghost use Rattle.trails.specs.Trails.{Places, way_to};

@@ -3,7 +3,7 @@
 -- The idea: where the point (i, d) is reached, only what has this point can still be due there, and that comes first in the list.
 use mathlib.Core.Path.{◌≡◌, refl, sym, ap, ap₂, ◌∙◌}
 use mathlib.Core.Logic.{◌⊎◌, inl, inr}
-use mathlib.Core.Bool.{Bool, true, false, ◌&&◌, and_false}
+use mathlib.Core.Bool.{Bool, true, false, ◌&&◌, and-false}
 use mathlib.Core.List.{List, [], ◌∷◌, ◌++◌}
 use Prim.Native.Nat.{ℕ, suc, ◌+◌, ◌-◌, ◌≤◌, ◌<◌}
 use native.Mathlib.Omega.{arith}
@@ -72,7 +72,7 @@ module _ {A : Type 0} (position done : A → ℕ) where
         some (n ∷ l) g h z = omega (arith, h.0)
 
         go : (c : Bool) → eqb (position x) i ≡ c → eqb (position x) i && eqb (done x) 0 ≡ false
-        go true p = rw (ne_eqb (done x) 0 (some (references_at t path (position x)) (ap (references_at t path) (eqb-true (position x) i p) ∙ q) e.0.1), and_false)
+        go true p = rw (ne_eqb (done x) 0 (some (references_at t path (position x)) (ap (references_at t path) (eqb-true (position x) i p) ∙ q) e.0.1), and-false)
         go false p = rw p
 
     module _ (all : A → List ℕ) where

@@ -9,7 +9,7 @@ use crate::replay_cache::{ReplayCache, refer, reference_at};
 use cache::blocks::CacheShape;
 
 // Both caches, and the lost hits so far: own references that hit in the undisturbed run and miss in the disturbed one.
-#[derive(Drop)]
+#[derive(Clone, Copy)]
 pub struct BothRuns {
     pub undisturbed: ReplayCache,
     pub disturbed: ReplayCache,

@@ -15,7 +15,7 @@ use body::walk;
 use cache::blocks::CacheShape;
 
 // A point of a path: a position, and how many references of the block there are done.
-#[derive(Drop)]
+#[derive(Clone, Copy)]
 pub struct PathPoint {
     pub position: usize,
     pub done: usize,

@@ -11,7 +11,7 @@ use cache::references::number_at;
 use cache::row::Row;
 
 // A cache row and the misses so far.
-#[derive(Drop)]
+#[derive(Clone, Copy)]
 pub struct ReplayCache {
     pub cells: [u16; 32],
     pub misses: u32,

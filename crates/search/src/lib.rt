@@ -1,4 +1,6 @@
 // The search for the point and the rows that make a pair number, among gathered rows.
+#![tactic(auto)]
+
 mod at_point;
 mod before;
 mod block;
@@ -20,7 +22,7 @@ use cache::blocks::CacheShape;
 
 // A point of a block, where `done` of its references are done, and the row before the block: it is the first of a path, or comes after the block
 // `before`, with the reaching row of that numbered `reaching`.
-#[derive(Drop)]
+#[derive(Clone, Copy)]
 pub struct Point {
     pub block: usize,
     pub first: bool,
@@ -31,7 +33,7 @@ pub struct Point {
 
 // A point, the numbers of a live row of its block and of an end row of another task, and one more than the cache blocks that are useful at the point and
 // replaced by the end row; a cost of 0 tells that nothing is found.
-#[derive(Drop)]
+#[derive(Clone, Copy)]
 pub struct Found {
     pub point: Point,
     pub live: usize,

@@ -9,7 +9,7 @@ use native.Mathlib.Omega.{arith}
 use lib.Dec.{eqb, ltb, leb}
 use lib.ListN.{length, take, drop, length-append, length-take, take-append-drop}
 use lib.Seq.{take_at, drop_at}
-use borrow.Author.Tests.{eqb-true, eqb-false, eq-eqb, ne_eqb, ltb-true, lt-ltb, le-ltb, leb-true, le-leb, not_true}
+use borrow.Author.Tests.{eqb-true, eqb-false, eq-eqb, ne_eqb, ltb-true, lt-ltb, le-ltb, leb-true, le-leb, not-true}
 use Rattle.model.specs.Lists.{Each}
 use Rattle.model.specs.Runs.{Preemption, NotBefore, NeverFall}
 use Rattle.model.proofs.Membership.{or_cases, both_left, both_right}
@@ -126,7 +126,7 @@ preemption_read t p long low low_done position done by k rest e =
       keeps = record {
         in_path = ltb-true position long (both_left (ltb position long) _ e1);
         there = ltb-true by t (both_left (ltb by t) _ e2);
-        other = eqb-false by p (not_true (eqb by p) (both_left (not (eqb by p)) _ e3));
+        other = eqb-false by p (not-true (eqb by p) (both_left (not (eqb by p)) _ e3));
         bounds = path.bounds;
       };
       rises = passes_not_before low low_done position done (both_left (not_before low low_done position done) _ e);

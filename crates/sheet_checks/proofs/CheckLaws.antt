@@ -6,7 +6,7 @@ use mathlib.Core.List.{List}
 use mathlib.Core.Logic.{◌↔◌}
 use Prim.Native.Nat.{ℕ}
 use lib.ListN.{length}
-use borrow.Author.Tests.{not-false, not_true}
+use borrow.Author.Tests.{not-false, not-true}
 use Rattle.model.proofs.Membership.{both_left, both_right}
 use Rattle.project.specs.declared.answers.Check.TheVariants.{Passed}
 use Rattle.project.specs.declared.answers.Check.TheVariants.{Refused as Failed}
@@ -87,7 +87,7 @@ parsed-by (parsed r) e = refl
 module _ (s sheet : List ℕ) where
   exact12 : (test12 s sheet ≡ true) ↔ Fault12 (task_count s) sheet
   exact12 = (
-    λ e. broken_fault (task_count s) sheet (broken-by _ (not_true (kept_sheet (parse (task_count s) sheet)) e)),
+    λ e. broken_fault (task_count s) sheet (broken-by _ (not-true (kept_sheet (parse (task_count s) sheet)) e)),
     λ f. ap (λ (d : Parsed). not (kept_sheet d)) (fault_broken (task_count s) sheet f),
   )
 

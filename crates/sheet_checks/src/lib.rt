@@ -1,5 +1,7 @@
 // Checks 12, 13 and 16 of a run sheet: its rules, whether each path is complete and each number of references done is right, and whether the
 // preemptions avoid masked blocks.
+#![tactic(auto)]
+
 ghost use Rattle.std.specs.Prelude.{◌≡◌, true, ◌&&◌, ◌<◌, length};
 ghost use Rattle.model.specs.Tasks.{task};
 ghost use Rattle.body.specs.Decode.{decode, task_of};

@@ -1,4 +1,6 @@
 // The rows of a block put in dictionary order, for rows of every width.
+#![tactic(auto)]
+
 ghost use Rattle.std.specs.Prelude.{◌≡◌, ◌+◌, ◌*◌, ◌%◌, ◌≤◌, length, take, drop, replicate};
 ghost use Rattle.model.specs.Order.{before};
 ghost use Rattle.model.specs.Computed.{insert_row, sorted};

@@ -1,4 +1,6 @@
 // Prints the states of tasks: of E, of figure 1's graph, of forks, loops and blocks without references.
+#![tactic(auto)]
+
 use area::AREA_LENGTH;
 use area::row::row;
 use example_files::{

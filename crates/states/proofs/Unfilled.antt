@@ -126,7 +126,7 @@ module _ (w : ℕ) (s : List ℕ) (j : ℕ) (area : List ℕ) (ok : filling_of w
       ∙ part_unfilled w states (32 * w - length (flat states)) number c (states-wide w s j area ok b inside live) (omega (arith, count_at_lem w s j area ok b inside live)) (ends number c h m)
 
   states_beyond : n ≤ w → (x : Bool) → Each (Beyond w n) (states_of w s j area ok b inside x)
-  states_beyond high x = go x (passing s (filled-file w s j area ok)).n-low
+  states_beyond high x = go x (passing s (filled-file w s j area ok)).n_low
     where
       go : (x : Bool) → 0 < n → Each (Beyond w n) (states_of w s j area ok b inside x)
       go true low = each_of (Beyond w n) (living k its b) (λ row e. lives_beyond w n low high its b row ((living-rows k its b row).0 e))

@@ -40,6 +40,6 @@ table_place s i j a b = place_at (entry_of s) 8 0 i j a b ∙ ap (λ (k : ℕ). 
 pub table_entries : (w : ℕ) (s : List ℕ) → TableEntries w s
 table_entries w s area table e i j hi hj d =
     let passed = filled-passed (table_check w s area table) e in
-    let few = (passing s (passed-file w s area table passed)).t-high in
+    let few = (passing s (passed-file w s area table passed)).t_high in
     rw passed
     (table_place s i j (omega arith) (omega arith) ∙ rw (lt-ltb i (task_count s) hi, lt-ltb j (task_count s) hj, ne_eqb i j (λ q. d (sym q))))

@@ -1,4 +1,6 @@
 // Table: the pair numbers of all tasks of a file.
+#![tactic(auto)]
+
 ghost use Rattle.std.specs.Prelude.{◌≡◌, true, length};
 ghost use Rattle.cache.specs.Shape.{shaped, Holds};
 ghost use Rattle.rows.specs.Rows.{Width, area_length};

@@ -1,5 +1,7 @@
 // What the passes need of each task of a file, found once: where its blocks begin, the sets of their successors, and the set of its unmasked blocks.
 // The places of tasks that the file doesn't have are left open.
+#![tactic(auto)]
+
 ghost use Rattle.std.specs.Prelude.{◌≡◌, true, length};
 ghost use Rattle.project.specs.File.{task_count};
 ghost use Rattle.project.specs.Reading.{reading_of};

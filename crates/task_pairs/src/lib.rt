@@ -1,4 +1,6 @@
 // The numbers of one task against all tasks: the points of its unmasked blocks are met by the end rows of each task.
+#![tactic(auto)]
+
 ghost use Rattle.std.specs.Prelude.{◌≡◌, true, ◌*◌, ◌/◌, ◌≤◌, ◌<◌, length};
 ghost use Rattle.cache.specs.References.{numbers as references_in, Real, All};
 ghost use Rattle.cache.specs.Cache.{with_references};

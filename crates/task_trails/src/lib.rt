@@ -1,4 +1,6 @@
 // The reaching and live states of a body, with the paths that lead to them and on from them.
+#![tactic(auto)]
+
 ghost use Rattle.std.specs.Prelude.{◌≡◌, true, ◌*◌, ◌-◌, ◌≤◌, ◌<◌, length};
 ghost use Rattle.cache.specs.Shape.{shaped, Holds};
 ghost use Rattle.body.specs.Decode.{decode, task_of};

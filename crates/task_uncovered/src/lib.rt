@@ -1,4 +1,6 @@
 // The rows of a task for Table: all of them where no block has more than 32 states, else uncovered ones.
+#![tactic(auto)]
+
 pub mod keep;
 
 ghost use mathlib.Core.Path.{◌≡◌};

@@ -1,4 +1,6 @@
 // The text that crpd prints, put into a lent list of bytes.
+#![tactic(auto)]
+
 mod lines;
 mod numeral;
 

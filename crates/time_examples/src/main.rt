@@ -1,4 +1,6 @@
 // Prints the time of some numbers of misses, penalties and clocks, and what check 17 refuses.
+#![tactic(auto)]
+
 use libc::STDOUT_FILENO;
 use microseconds::{Timing, microseconds};
 

@@ -102,9 +102,9 @@ read_written e f n t out h a room =
     let k = edition f in
     let many = length-bodies f (task_count f) 0 in
     let again : file_in k n (bodies f) ≡ f = ap (λ x. file_in k x (bodies f)) en ∙ written_again e f h p in
-    let e5 : test5 k n ≡ false = rw en (within (cache_blocks f) (16 * k) p.n-low p.n-high) in
-    let e6 : count_test (length (bodies f)) ≡ false = rw many (within (task_count f) 8 p.t-low p.t-high) in
-    let (x, y) = written_back k n (bodies f) out p.k-low e5 e6 p.tasks (omega (arith, ap length again)) in (
+    let e5 : test5 k n ≡ false = rw en (within (cache_blocks f) (16 * k) p.n_low p.n_high) in
+    let e6 : count_test (length (bodies f)) ≡ false = rw many (within (task_count f) 8 p.t_low p.t_high) in
+    let (x, y) = written_back k n (bodies f) out p.k_low e5 e6 p.tasks (omega (arith, ap length again)) in (
       x ∙ ap (λ z. Written (length z)) again,
       ap (λ z. take (length z) (out_in k n (joined (bodies f)) (lengths (bodies f)) out)) (sym again) ∙ y ∙ again,
     )

@@ -1,4 +1,6 @@
 // Writer: the packed file of n and the joined bodies.
+#![tactic(auto)]
+
 ghost use Rattle.std.specs.Prelude.{◌≡◌, ◌≤◌};
 ghost use Rattle.project.specs.Writing.{writer_check_in, writing_in, out_in, writing_of, out_of};
 

@@ -2,7 +2,7 @@
 use mathlib.Core.Path.{◌≡◌, refl, sym, ◌∙◌}
 use mathlib.Core.Logic.{⊎_elim}
 use lib.ListN.{length}
-use borrow.Author.Tests.{eqb-true, eqb-false, not_true, not-false}
+use borrow.Author.Tests.{eqb-true, eqb-false, not-true, not-false}
 use Rattle.reader.proofs.ReadLaws.{read_head}
 use Rattle.costliest.proofs.Answers.{refused_as, other-first, other_second, not_read}
 use borrow.Author.Rules.{rules}
@@ -13,7 +13,7 @@ use Rattle.costliest.proofs.costliest_run.Tie as tie
 returns : tie.Need-returns
 returns c =
     let args = c.before.before.before.before.before.args in
-    let fails = ⊎_elim (λ w. other-first 16 args.file.now args.i args.j args.first.now args.second.now args.sheet.now w.taken) (λ w. other_second 16 args.file.now args.i args.j args.first.now args.second.now args.sheet.now w.0.left (eqb-false _ _ (not_true _ w.1.taken))) c.if1.branch in
+    let fails = ⊎_elim (λ w. other-first 16 args.file.now args.i args.j args.first.now args.second.now args.sheet.now w.taken) (λ w. other_second 16 args.file.now args.i args.j args.first.now args.second.now args.sheet.now w.0.left (eqb-false _ _ (not-true _ w.1.taken))) c.if1.branch in
     (refused_as args.file.now args.i args.j args.sheet.now fails, refl, refl)
 
 lengths : (c : tie.Else2) → let args = c.before.before.before.before.before.before.args in (length args.first.now ≡ 24832) × (length args.second.now ≡ 24832)

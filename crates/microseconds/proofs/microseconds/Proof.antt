@@ -35,10 +35,10 @@ mul-product-2 : tie.Need-overflow-mul-product-2
 mul-product-2 c = record { fits = omega (arith, cycles_le (in_bounds c)) }
 
 div-whole : tie.Need-nonzero-div-whole
-div-whole c = (in_bounds c).clock-low
+div-whole c = (in_bounds c).clock_low
 
 rem-remainder : tie.Need-nonzero-rem-remainder
-rem-remainder c = (in_bounds c).clock-low
+rem-remainder c = (in_bounds c).clock_low
 
 returns : tie.Need-returns
 returns c =

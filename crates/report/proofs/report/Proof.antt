@@ -44,7 +44,7 @@ table-text-requires : tie.Need-table-text-requires
 table-text-requires c κs =
     let start = c.before.before.before.before.before.before.before.before.before.before.before.before.before.before.before in
     let answer = c.before.before.before.before.before.before.before.before.before.table in
-    ((accepted c.before.before.before.before).t-high, answer.auto.1.1.0, start.requires.1)
+    ((accepted c.before.before.before.before).t_high, answer.auto.1.1.0, start.requires.1)
 
 same_length : tie.Need-same-length
 same_length c = search rules

@@ -2,7 +2,7 @@
 use mathlib.Core.Path.{◌≡◌, refl, sym, ◌∙◌}
 use mathlib.Core.Logic.{⊎_elim}
 use lib.ListN.{length}
-use borrow.Author.Tests.{eqb-true, eqb-false, not_true, not-false}
+use borrow.Author.Tests.{eqb-true, eqb-false, not-true, not-false}
 use Rattle.reader.proofs.ReadLaws.{read_head}
 use Rattle.table.proofs.Answers.{other_area, other_table, not_read}
 use borrow.Author.Rules.{rules}
@@ -17,7 +17,7 @@ returns : tie.Need-returns
 returns c =
     let args = c.before.before.before.before.args in
     let out = ⊎_elim (λ w. other_area 16 args.file.now args.area.now args.table.now w.taken)
-    (λ w. other_table 16 args.file.now args.area.now args.table.now w.0.left (eqb-false _ _ (not_true _ w.1.taken))) c.if1.branch in
+    (λ w. other_table 16 args.file.now args.area.now args.table.now w.0.left (eqb-false _ _ (not-true _ w.1.taken))) c.if1.branch in
     (out.0, out.1, refl)
 
 head-requires : tie.Need-head-requires

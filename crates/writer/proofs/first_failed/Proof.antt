@@ -6,7 +6,7 @@ use Prim.Native.Nat.{◌*◌, ◌≤◌}
 use native.Mathlib.Omega.{arith}
 use lib.Dec.{ltb}
 use lib.ListN.{length}
-use borrow.Author.Tests.{ltb-false, not_true, not-false}
+use borrow.Author.Tests.{ltb-false, not-true, not-false}
 use borrow.Author.Rules.{rules}
 use Rattle.project.specs.Ends.{between}
 use Rattle.project.specs.Reading.{test5, tasks_check}
@@ -79,7 +79,7 @@ returns-3 : tie.Need-returns-3
 returns-3 c =
     let at = c.before.before.before in
     let args = at.before.before.before.before.before.before.before.before.args in
-    let t = sym at.ends_of.ensures.0 ∙ not_true at.ends_of.result.fit c.before.if5.true in
+    let t = sym at.ends_of.ensures.0 ∙ not-true at.ends_of.result.fit c.before.if5.true in
     c.refused3.ensures ∙ sym (at7 args.edition args.n args.bodies.now args.lengths.now args.out.now (past6 at.before) t)
 
 check-tasks-requires : tie.Need-check-tasks-requires

@@ -37,7 +37,7 @@ decided-requires : tie.Need-decided-requires
 decided-requires c κs =
     let args = c.before.before.before.before.before.before.before.before.before.before.before.before.before.args in
     let p = plan_passing 16 args.file.now args.area.now c.before.before.before.before.before.before.before.before.table.ensures.0 c.before.before.before.enum_told.given.1 in
-    omega (arith, p.t-high, c.byte-count.ensures.0)
+    omega (arith, p.t_high, c.byte-count.ensures.0)
 
 same_length : tie.Need-same-length
 same_length c = search rules

@@ -1,0 +1,11 @@
+-- `sets::useful_chunk` meets its contract. The loop's invariant: the bits set are the useful cache blocks below c. Assumes nothing.
+use mathlib.Core.Path.{◌≡◌}
+use Prim.Native.Nat.{◌≤◌, ◌-◌}
+use Rattle.cache.specs.Sets.{useful, bits}
+use Rattle.cache.proofs.sets.useful_chunk.Given as goal
+
+abbrev pub invariant-loop-c : goal.invariant-loop-c
+invariant-loop-c l = (l.c ≤ 16) × (l.set ≡ bits l.c (useful l.reaching l.live))
+
+abbrev pub decreases-loop-c : goal.decreases-loop-c
+decreases-loop-c l = 16 - l.c
