@@ -56,6 +56,6 @@ pub fn all_on_paths(sets: [u32; 24], count: usize) -> bool
     ensures { (t : Task) → InBounds t → length t ≡ count → sets ≡ jump_sets t → result ≡ all_on_path t }
 {
     let from_entry = closure(sets, 0);
-    let to_end_lem = closure(predecessors(sets, count), count - 1);
-    has_all(from_entry & to_end_lem, count)
+    let to_end = closure(predecessors(sets, count), count - 1);
+    has_all(from_entry & to_end, count)
 }

@@ -69,7 +69,7 @@ references-each t P h (b ∷ p) m e =
 
 pub predecessors_has : (xs : Task) (i b c : ℕ) → mem eqb c (block xs b).successors ≡ true → mem eqb (i + b) (predecessors_from i xs c) ≡ true
 predecessors_has [] i b c e = absurd (false≢true e)
-predecessors_has (x ∷ xs) i zero c e = rw (e, add-zero) (or_left (eqb i i) (mem eqb i (predecessors_from (suc i) xs c)) (eqb_self i))
+predecessors_has (x ∷ xs) i zero c e = rw e (or_left (eqb (i + 0) i) (mem eqb (i + 0) (predecessors_from (suc i) xs c)) (rw add-zero (eqb_self i)))
 predecessors_has (x ∷ xs) i (suc b) c e = go (mem eqb c x.successors) (rw (add-suc, ← (suc-add i b)) (predecessors_has xs (suc i) b c e))
   where
     go : (s : Bool) → mem eqb (i + suc b) (predecessors_from (suc i) xs c) ≡ true

@@ -131,7 +131,12 @@ module _ (ts : List Task) (t : Task) (x : Preemption) where
 
   one_block : (i : ℕ) (ms : List ℕ) (rest : List Point) → x.position ≡ i → Done ms x.done
       → run_events ts (x ∷ []) (block_points i ms ++ rest) ≡ refs (take x.done ms) (foreign ∷ refs (drop x.done ms) (run_events ts (x ∷ []) rest))
-  one_block i [] rest p h = rw (eq-eqb x.position i p, h)
+  one_block i [] rest p h = go x.done h h
+    where
+      go : (d : ℕ) → x.done ≡ 0 → d ≡ 0
+          → run_events ts (x ∷ []) (block_points i [] ++ rest) ≡ refs (take d []) (foreign ∷ refs (drop d []) (run_events ts (x ∷ []) rest))
+      go zero e q = rw (eq-eqb x.position i p, eq-eqb x.done 0 e)
+      go (suc d) e q = absurd (omega arith)
   one_block i (m ∷ ms) rest p h = go x.done refl h.0 h.1
     where
       go : (d : ℕ) → x.done ≡ d → 1 ≤ d → d ≤ length (m ∷ ms)

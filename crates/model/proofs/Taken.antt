@@ -113,6 +113,7 @@ module _ {A : Type 0} (position done : A → ℕ) where
   same_done x i d e = eqb-true (done x) d (both_right (eqb (position x) i) (eqb (done x) d) e)
 
   has_after : (x : A) (i d : ℕ) (ps : List Point) → After i d ps → Has x ps → Before i d (position x) (done x)
+  has_after x i d [] h x3 = elim x3 [ ]
   has_after x i d (p ∷ ps) h (inl e) = here h.0
     where
       here : Before i d p.position p.done → Before i d (position x) (done x)

@@ -69,7 +69,7 @@ fn point_kept(sheet: &[u16], at: usize, long: usize, i: usize, d: usize) -> bool
 
 // The run that begins at `at`; `deep` runs may lie one within the other below it.
 #[cycle(list_end_run_end)]
-fn run_end_lem(sheet: &[u16], at: usize, tasks: usize, deep: usize, around: u32) -> End
+fn run_end(sheet: &[u16], at: usize, tasks: usize, deep: usize, around: u32) -> End
     requires { (tasks ≤ 8) × (at ≤ length sheet.now) }
     ensures { (result ≡ run_end tasks deep around sheet.now at) × EndsIn sheet.now at result }
 {
@@ -114,7 +114,7 @@ fn list_end(
         return End::Fault { check: 20 };
     }
     if point_kept(sheet, at, long, i, d) {
-        return match run_end_lem(sheet, at + 2, tasks, deep - 1, around) {
+        return match run_end(sheet, at + 2, tasks, deep - 1, around) {
             End::Fault { check } => End::Fault { check },
             End::At { next } => list_end(
                 sheet,
@@ -137,7 +137,7 @@ pub fn sheet_fault(sheet: &[u16], tasks: usize) -> u8
     requires { tasks ≤ 8 }
     ensures { result ≡ sheet_fault tasks sheet.now }
 {
-    match run_end_lem(sheet, 0, tasks, DEEPEST, 0) {
+    match run_end(sheet, 0, tasks, DEEPEST, 0) {
         End::Fault { check } => check,
         End::At { next } => if next == sheet.len() { 0 } else { 12 },
     }

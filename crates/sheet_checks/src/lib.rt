@@ -73,7 +73,7 @@ pub fn right_done(body: &[u8], starts: &[usize], path: &[u16], position: usize, 
 
 // Check 13, the points: whether the number of references done is right at each preemption, masked or not. A point's block is one of the own path,
 // whose blocks stand from place 2 on.
-fn all_done_lem(file: &[u8], sheet: &[u16]) -> bool
+fn all_done(file: &[u8], sheet: &[u16]) -> bool
     requires { Passed12 file.now sheet.now × (complete_all (tasks_of file.now) (run_in file.now sheet.now) ≡ true) }
     ensures { result ≡ done_all (tasks_of file.now) (run_in file.now sheet.now) }
 {
@@ -99,7 +99,7 @@ fn paths_and_points(file: &[u8], sheet: &[u16]) -> bool
         && done_all (tasks_of file.now) (run_in file.now sheet.now) }
 {
     if all_complete(file, sheet) {
-        return all_done_lem(file, sheet);
+        return all_done(file, sheet);
     }
     false
 }

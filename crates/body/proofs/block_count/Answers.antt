@@ -5,14 +5,12 @@ use mathlib.Core.List.{List}
 use Prim.Native.Nat.{ℕ, ◌≤◌}
 use native.Mathlib.Omega.{arith}
 use lib.ListN.{length, get_or}
-use borrow.Author.Rules.{rules}
 use Rattle.model.specs.Tasks.{Task}
 use Rattle.body.specs.Decode.{decode, task_of}
 use Rattle.body.specs.Walk.{kept_of}
 use Rattle.body.proofs.Decoded.{decoded-bounds, first_byte}
 use Rattle.body.proofs.WalksParts.{kept-decoded}
-use Rattle.body.proofs.block_count.Statement.{statement}
-use Rattle.body.proofs.block_count.Tie as tie
+use Rattle.body.proofs.block_count.Goals as goal
 
 record Counted (s : List ℕ) : Type 0 where
   there : 1 ≤ length s
@@ -28,18 +26,12 @@ counted s k =
     let f = first_byte s t e in
     record { there = f.there; count = f.count ∙ sym same; some = omega (arith, same, b.some); few = omega (arith, same, b.few) }
 
-shared-slice-read-byte-count : tie.Need-shared-slice-read-byte-count
-shared-slice-read-byte-count c = (counted c.before.before.args.body.now c.before.before.requires).there
+pub bounds-body-0 : goal.bounds-body-0
+bounds-body-0 c = (counted c.args.body.now c.requires).there
 
-byte-count-requires : tie.Need-byte-count-requires
-byte-count-requires c κs = search rules
-
-returns : tie.Need-returns
+pub returns : goal.returns
 returns c =
-    let start = c.before.before.before in
+    let start = c in
     let n = counted start.args.body.now start.requires in
-    let e = c.byte-count.ensures.0 ∙ n.count in
+    let e = c.byte_count.ensures.0 ∙ n.count in
     (e, omega (arith, e, n.some), omega (arith, e, n.few))
-
-pub block-count-spec : {M : Type 1} → statement M
-block-count-spec = tie.close (tie.spec shared-slice-read-byte-count byte-count-requires returns)
