@@ -79,6 +79,8 @@ not-both (one number named test Fault) c a (p, q, f) pass = pass f
 not-both (each number tests Fault) c a (p, f) pass = pass a f.0
 
 pub verdict_unique : (es : List Entry) (r q : Check) → Verdict es r → Verdict es q → r ≡ q
+verdict_unique [] Passed (Failed d b) v w = elim w [ ]
+verdict_unique [] (Failed c a) q v w = elim v [ ]
 verdict_unique [] Passed Passed v w = refl
 verdict_unique (e ∷ es) Passed Passed v w = refl
 verdict_unique (e ∷ es) Passed (Failed d b) (p, v) (inl g) = absurd (not-both e d b g p)

@@ -1,0 +1,25 @@
+-- `rows::chunk_at` meets its contract: after i turns the first i numbers are copied. Assumes nothing.
+use mathlib.Core.Path.{refl}
+use Prim.Native.Nat.{◌-◌}
+use native.Mathlib.Omega.{arith}
+use lib.ListN.{drop, length-set}
+use Rattle.rows.proofs.Parts.{copy_turn, copy_end}
+use Rattle.rows.proofs.chunk_at.Goals as goal
+
+pub loop-i-init : goal.loop-i-init
+loop-i-init c = (omega arith, refl, refl)
+
+pub loop-i-preserved : goal.loop-i-preserved
+loop-i-preserved c =
+    let at = c.loop-i in
+    let args = c.args in (
+      omega arith,
+      simp length-set (omega arith),
+      copy_turn at.row args.part.now args.at at.i (omega arith) (omega arith) at.invariant.2,
+    )
+
+pub returns : goal.returns
+returns c =
+    let at = c.loop-i in
+    let args = c.args in
+    copy_end 16 at.row (drop args.at args.part.now) at.i (omega arith) (omega arith) at.invariant.2
