@@ -4,9 +4,5 @@ pub mod Segments
 pub mod PathCounts
 pub mod CacheLaws
 pub mod RunLaws
-pub mod LentCache
-pub mod LentRow
-pub mod ReferCaller
 pub mod BothLaws
-pub mod PartCaller
 pub mod BothEvents

@@ -16,7 +16,7 @@ pub record SheetPlaces (s : List ℕ) (r : SheetRun) : Type 0 where
   pub long-at : get_or s 1 0 ≡ length r.path
   pub path-at : drop 2 s ≡ r.path ++ (length r.preemptions ∷ preemption_numbers r.preemptions)
   pub within : 3 + length r.path ≤ length s
-  pub list_at_lem : drop (3 + length r.path) s ≡ preemption_numbers r.preemptions
+  pub list-at : drop (3 + length r.path) s ≡ preemption_numbers r.preemptions
 
 pub sheet-places : (s : List ℕ) (r : SheetRun) → s ≡ sheet_numbers r → SheetPlaces s r
 sheet-places s r e =
@@ -27,7 +27,7 @@ sheet-places s r e =
       long-at = refl;
       path-at = refl;
       within = rw (length-append r.path rest) (omega arith);
-      list_at_lem = rw n (drop-append-add r.path rest 1);
+      list-at = rw n (drop-append-add r.path rest 1);
     })
 
 -- the blocks of the path from the position i up to j, as a part of the sheet

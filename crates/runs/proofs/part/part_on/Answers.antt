@@ -1,0 +1,61 @@
+-- `part::part_on` meets its contract: the bytes of the block's references, from two for each that is done where the part begins, up to two for each
+-- that is done where it ends. Assumes nothing.
+use mathlib.Core.Path.{◌≡◌}
+use Prim.Native.Nat.{ℕ, ◌*◌, ◌≤◌}
+use native.Mathlib.Omega.{arith}
+use lib.ListN.{length, get_or}
+use Rattle.model.specs.Tasks.{block}
+use Rattle.body.specs.Decode.{decode, task_of}
+use Rattle.runs.specs.Parts.{done_before}
+use Rattle.body.proofs.Decoded.{few-references}
+use Rattle.runs.proofs.RunLaws.{walked}
+use Rattle.runs.proofs.PartTurns.{begins_here, begins-before, Ends, ends_here, ends-after, part_order, part_numbers}
+use Rattle.runs.proofs.part.part_on.Goals as goal
+use Rattle.runs.proofs.part.part_on.Goals.{After-row_known-2-1, Start, else-x-from, else-x-to, then-x-from, then-x-to}
+
+few : (c : Start) (b : ℕ) → length (block (task_of (decode c.args.body.now)) b).references ≤ 16
+few c b =
+    few-references (task_of (decode c.args.body.now)) (walked c.args.body.now c.args.starts.now c.requires.0.runs.kept c.requires.0.begin).bounds b
+
+pub overflow_mul-first : goal.overflow_mul-first
+overflow_mul-first c =
+    let start = c in
+    omega (arith, start.requires.1.from_done, few (goal.at.overflow_mul-first c).Start (get_or start.args.path.now start.args.from.position 0))
+
+pub overflow_mul-end : goal.overflow_mul-end
+overflow_mul-end c =
+    let start = c in
+    omega (arith, start.requires.1.to_done, few (goal.at.overflow_mul-end c).Start (get_or start.args.path.now start.args.to.position 0))
+
+-- where the part begins in the block, and where it ends
+begin : (c : After-row_known-2-1)
+    → let args = c.args in
+    c.if-x-from.first ≡ 2 * done_before args.from args.x
+begin c =
+    let args = c.args in
+    let t = task_of (decode args.body.now) in
+    (elim c.if-x-from.branch [ then-x-from w ↦ begins_here t args.path.now args.from args.to args.x w.if-x-from.true w.2 | else-x-from w ↦ begins-before t args.path.now args.from args.to args.x w.if-x-from.false w.joined-is ])
+
+end : (c : After-row_known-2-1)
+    → let args = c.args in
+    Ends (task_of (decode args.body.now)) args.path.now args.from args.to args.x c.references_on-bytes.result.now c.if-x-to.end
+end c =
+    let args = c.args in
+    let t = task_of (decode args.body.now) in
+    let bytes = c.references_on-bytes.result.now in
+    (elim c.if-x-to.branch [ then-x-to w ↦ ends_here t args.path.now args.from args.to args.x bytes w.if-x-to.true w.2 | else-x-to w ↦ ends-after t args.path.now args.from args.to args.x bytes w.if-x-to.false w.joined-is ])
+
+order : (c : After-row_known-2-1) → c.if-x-from.first ≤ c.if-x-to.end
+order c =
+    let start = c in
+    let got = c.references_on-bytes in
+    part_order (task_of (decode start.args.body.now)) start.args.path.now start.args.from start.args.to start.requires.1 start.args.x start.requires.2 start.requires.3 got.result.now got.ensures _ _ (begin c) (end c)
+
+pub slice_bounds-result-count : goal.slice_bounds-result-count
+slice_bounds-result-count c = order c
+
+pub returns : goal.returns
+returns c =
+    let start = c in
+    let got = c.references_on-bytes in
+    part_numbers (task_of (decode start.args.body.now)) start.args.path.now start.args.from start.args.to start.requires.1 start.args.x start.requires.2 start.requires.3 got.result.now got.ensures _ _ (begin (goal.at.returns c).After-row_known-2-1) (end (goal.at.returns c).After-row_known-2-1)
