@@ -21,7 +21,7 @@ loop-l-preserved c =
     let args = c.args in
     let is = marked-is args.x args.m args.bit (get_or args.lane.now at.l 0) in
     let new : c.if-held-m.sets ≡ marked_bit args.x args.m args.bit (get_or args.lane.now at.l 0)
-    = (elim c.if-x-eq-NOTHING.branch [ then-x-eq-NOTHING w ↦ (elim c.if-held-m.branch [ then-held-m v ↦ is (inl (w.if-x-eq-NOTHING.true, w.held-is)) (inl (v.if-held-m.true, v.sets-is)) | else-held-m v ↦ is (inl (w.if-x-eq-NOTHING.true, w.held-is)) (inr (v.if-held-m.false, v.sets-is)) ]) | else-x-eq-NOTHING w ↦ (elim c.if-held-m.branch [ then-held-m v ↦ is (inr (w.if-x-eq-NOTHING.false, w.joined-is)) (inl (v.if-held-m.true, v.joined-is)) | else-held-m v ↦ is (inr (w.if-x-eq-NOTHING.false, w.joined-is)) (inr (v.if-held-m.false, v.joined-is)) ]) ]) in
+    = (elim c.if-x-eq-NOTHING.branch [ then-x-eq-NOTHING w ↦ (elim c.if-held-m.branch [ then-held-m v ↦ is (inl (w.if-x-eq-NOTHING.true, w.held-is)) (inl (v.if-held-m.true, v.sets-is)) | else-held-m v ↦ is (inl (w.if-x-eq-NOTHING.true, w.held-is)) (inr (v.if-held-m.false, v.sets-is)) ]) | else-x-eq-NOTHING w ↦ (elim c.if-held-m.branch [ then-held-m v ↦ is (inr (w.if-x-eq-NOTHING.false, w.held-is)) (inl (v.if-held-m.true, v.sets-is)) | else-held-m v ↦ is (inr (w.if-x-eq-NOTHING.false, w.held-is)) (inr (v.if-held-m.false, v.sets-is)) ]) ]) in
     let (marked, others) = filled_next (λ k. bit_or (get_or args.sets.now k 0) (marked_bit args.x args.m args.bit (get_or args.lane.now k 0))) (λ k. get_or args.sets.now k 0)
     at.sets at.l _ (omega arith) (ap₂ bit_or (at.invariant.3 at.l (omega arith)) new) at.invariant.2 at.invariant.3 in
     (omega arith, simp length-set (omega arith), marked, others)

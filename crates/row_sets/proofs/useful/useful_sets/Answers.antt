@@ -59,12 +59,12 @@ loop-c-preserved c =
     let next : (length c.if-m.sets ≡ 32) × ((l : ℕ) → l < args.lived → get_or c.if-m.sets l 0 ≡ bits (at.c + 1) (useful row (overlay (lane_row (length row) lanes l) rest)))
     = elim c.if-m.branch [
       | then-m v ↦ rw v.sets-is (
-        v.sets-is.ensures.0,
-        λ l h. v.sets-is.ensures.1 l h
+        v.mark_lane.ensures.0,
+        λ l h. v.mark_lane.ensures.1 l h
             ∙ lane_marked row rest lanes l at.c (get_or at.sets l 0) _ _ _ _ inside (omega (arith, start.requires.0.narrow)) m v.if-m.true x (lane_part lanes at.c l (omega (arith, start.requires.3)) (omega (arith, start.requires.2, start.requires.3))) refl
             (at.invariant.2 l h),
       )
-      | else-m v ↦ rw v.joined-is (at.invariant.1, λ l h. lane_kept row rest lanes l at.c (get_or at.sets l 0) (sym m ∙ v.if-m.false) (at.invariant.2 l h))
+      | else-m v ↦ rw v.sets-is (at.invariant.1, λ l h. lane_kept row rest lanes l at.c (get_or at.sets l 0) (sym m ∙ v.if-m.false) (at.invariant.2 l h))
     ] in
     (omega arith, next.0, next.1)
 
