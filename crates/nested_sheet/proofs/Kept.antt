@@ -185,7 +185,8 @@ module _ (t : ℕ) (s : List ℕ) where
   list_coded zero around long zero i d at = tt
   list_coded zero around long (suc left) i d at = λ e. omega (arith, e)
   list_coded (suc deep) around long left i d at =
-      runs_coded _ (λ x. onwards_coded (head_end t around s x) _ (head_coded around x) (list_coded deep (bit_or around (2 ^ get_or s x 0)) _ _ 0 0)) long left i d at
+      runs_coded _ (λ x. onwards_coded (head_end t around s x) _ (head_coded around x)
+      (list_coded deep (bit_or around (2 ^ get_or s x 0)) (get_or s (x + 1) 0) (get_or s (x + 2 + get_or s (x + 1) 0) 0) 0 0)) long left i d at
 
   run_coded : (deep around at : ℕ) → Coded (run_end t deep around s at)
   run_coded deep around at = onwards_coded (head_end t around s at) _ (head_coded around at) (list_coded deep (bit_or around (2 ^ get_or s at 0)) _ _ 0 0)

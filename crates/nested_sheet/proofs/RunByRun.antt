@@ -234,7 +234,7 @@ list_agrees t zero around s stack j long zero i d at h e = refl
 list_agrees t zero around s stack j long (suc left) i d at h e = rw (le-leb 1 (suc left) (omega arith), eq-eqb (length stack) deepest (omega arith))
 list_agrees t (suc deep) around s stack j long left i d at h e =
     rw (ne_eqb (length stack) deepest (omega arith), and-false (leb 1 left))
-    (runs_agree t s stack j long _ (λ left i d x. run-from t around s (frame j long left i d ∷ stack) x (list_end t deep (bit_or around (2 ^ get_or s x 0)) s) h
+    (runs_agree t s stack j long (λ x. run_by (list_end t deep (bit_or around (2 ^ get_or s x 0)) s) t around s x) (λ left i d x. run-from t around s (frame j long left i d ∷ stack) x (list_end t deep (bit_or around (2 ^ get_or s x 0)) s) h
     (list_agrees t deep (bit_or around (2 ^ get_or s x 0)) s (frame j long left i d ∷ stack) (get_or s x 0) (get_or s (x + 1) 0) (get_or s (x + 2 + get_or s (x + 1) 0) 0) 0 0
     (x + 3 + get_or s (x + 1) 0) (more_tasks around (get_or s x 0) (j ∷ tasks_of stack) h) (omega arith))) left i d at)
 
