@@ -13,7 +13,7 @@ use borrow.Author.Tests.{eqb-true, eqb-false, eq-eqb, ltb-true, ltb-false, leb-t
 use Rattle.model.specs.Lists.{mem}
 use Rattle.sheet.specs.Sheet.{Sheet, longest_path}
 use Rattle.nested_sheet.specs.NestedSheet.{deepest}
-use Rattle.nested_sheet.specs.FrontToBack.{Around, Next, a_task, a_length, a_block, a_count, a_position, a_done, no_number, tasks_of, at_front, after, after_all, Against12, Against20, NoFault, FirstAgainst, TooShort, Nested12, Nested20}
+use Rattle.nested_sheet.specs.FrontToBack.{Next, a_task, a_length, a_block, a_count, a_position, a_done, no_number, tasks_of, at_front, after, after_all, Against12, Against20, NoFault, FirstAgainst, TooShort, Nested12, Nested20}
 use Rattle.nested_sheet.specs.Reading.{check_of, first_of, missing, first_fault, sheet_fault}
 
 -- ---- one number

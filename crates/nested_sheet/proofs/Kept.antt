@@ -16,11 +16,10 @@ use Rattle.cache.proofs.Members.{in_empty}
 use Rattle.model.specs.Lists.{mem}
 use Rattle.model.specs.Nested.{RiseFrom, Outside}
 use Rattle.model.proofs.Membership.{both_left, both_right, or_left, or_right}
-use Rattle.sheet.specs.Sheet.{PathInBounds}
 use Rattle.sheet.specs.Parsed.{path_test}
 use Rattle.sheet.proofs.RuleLaws.{head}
 use Rattle.sheet.proofs.Parsing.{passes_not_before, path_read}
-use Rattle.nested_sheet.specs.NestedSheet.{NestedSheetRun, how_many, with_head, list_numbers, nested_numbers, RunInRules, ListInRules, ListWithin, NestedInRules, deepest}
+use Rattle.nested_sheet.specs.NestedSheet.{how_many, with_head, list_numbers, nested_numbers, RunInRules, ListInRules, ListWithin, NestedInRules, deepest}
 use Rattle.nested_sheet.specs.declared.rules.End.{End}
 use Rattle.nested_sheet.specs.declared.rules.End.TheVariants.{At, Fault}
 use Rattle.nested_sheet.specs.Reading.{head_end, onwards, point_test, runs_by, list_end, run_end, whole_fault, sheet_fault}

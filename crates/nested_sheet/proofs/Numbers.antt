@@ -15,7 +15,7 @@ use Rattle.model.specs.Lists.{mem}
 use Rattle.model.specs.Runs.{NotBefore}
 use Rattle.model.specs.Nested.{RunList, no_run, a_run, RiseFrom, Outside}
 use Rattle.sheet.specs.Sheet.{Sheet, PathInBounds, longest_path}
-use Rattle.nested_sheet.specs.NestedSheet.{NestedSheetRun, how_many, with_head, list_numbers, nested_numbers, RunInRules, ListInRules, ListWithin, NestedInRules, deepest}
+use Rattle.nested_sheet.specs.NestedSheet.{NestedSheetRun, how_many, with_head, list_numbers, nested_numbers, ListInRules, ListWithin, NestedInRules, deepest}
 use Rattle.nested_sheet.specs.FrontToBack.{Around, Next, a_task, a_length, a_block, a_count, a_position, a_done, tasks_of, going_on, after}
 use Rattle.nested_sheet.specs.Reading.{check_of, first_of, first_fault, sheet_fault}
 use Rattle.nested_sheet.specs.NestedRuns.{task_at, path_at, count_at, list_start, ListAt, list_at, with_run, runs_of, list_of, own_list, nested_run_of}

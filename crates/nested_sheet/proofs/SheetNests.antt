@@ -1,13 +1,13 @@
 -- The nested run of a sheet: the tests of checks 13 and 16 agree with their faults, `incomplete_exact`, `masked_exact`; a sheet that passes all checks is that of a
 -- nested run, `accepted_nested`, and a nested run that a sheet can hold passes them, `nested_sheet_lem`. Each is an induction on the list of runs.
 use mathlib.Core.Path.{◌≡◌, refl, sym, ap, ◌∙◌}
-use mathlib.Core.Logic.{◌↔◌, ◌≢◌}
+use mathlib.Core.Logic.{◌↔◌}
 use mathlib.Core.Bool.{Bool, true, false, not, ◌&&◌, false≢true}
 use mathlib.Core.List.{List, [], ◌∷◌}
 use Prim.Native.Nat.{ℕ, zero, suc, ◌≤◌}
 use native.Mathlib.Omega.{arith}
 use lib.ListN.{length, get_or}
-use Rattle.model.specs.Tasks.{Block, Task, block, Path, Complete, task}
+use Rattle.model.specs.Tasks.{Task, block, Path, Complete, task}
 use Rattle.model.specs.Nested.{RunList, no_run, a_run, RunsIn, NestedRun}
 use Rattle.model.specs.Computed.{unmasked}
 use Rattle.model.proofs.Membership.{both_left, both_right}

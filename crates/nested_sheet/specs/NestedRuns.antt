@@ -1,7 +1,7 @@
 -- The nested run that a sheet is the numbers of, by the places of its numbers, and checks 13 and 16 over all its runs, computed; proofs show that they agree
 -- with `NestedSheet`.
 use Rattle.std.specs.Prelude.{Bool, true, ◌&&◌, ℕ, zero, suc, ◌+◌, List, get_or, take, drop}
-use Rattle.model.specs.Tasks.{Block, Task, Path, block, task}
+use Rattle.model.specs.Tasks.{Task, Path, block, task}
 use Rattle.model.specs.Computed.{unmasked}
 use Rattle.model.specs.Nested.{RunList, no_run, a_run}
 use Rattle.sheet.specs.Sheet.{Sheet}

@@ -1,6 +1,6 @@
 -- Document 02, Point 7: the nested sheet, its rules, and checks 13 and 16 over all its runs. Definitions only.
 use Rattle.std.specs.Prelude.{◌≡◌, List, [], ◌∷◌, ◌++◌, ℕ, zero, suc, ◌≤◌, ◌<◌, length, get_or}
-use Rattle.model.specs.Tasks.{Block, Task, block, Unmasked, Done, Path, Complete, task}
+use Rattle.model.specs.Tasks.{Task, block, Unmasked, Done, Path, Complete, task}
 use Rattle.model.specs.Nested.{RunList, no_run, a_run, RiseFrom, Outside, NestedRun}
 use Rattle.sheet.specs.Sheet.{Sheet, path_numbers, PathInBounds, longest_path}
 

@@ -7,7 +7,7 @@ use Rattle.model.specs.Lists.{mem}
 use Rattle.sheet.specs.Sheet.{Sheet, longest_path}
 use Rattle.sheet.specs.Parsed.{path_test, not_before}
 use Rattle.nested_sheet.specs.NestedSheet.{deepest}
-use Rattle.nested_sheet.specs.FrontToBack.{Around, Next, a_task, a_length, a_block, a_count, a_position, a_done, no_number, tasks_of, at_front, after}
+use Rattle.nested_sheet.specs.FrontToBack.{Next, a_task, a_length, a_block, a_count, a_position, a_done, no_number, tasks_of, at_front, after}
 use Rattle.nested_sheet.specs.declared.rules.End.{End}
 use Rattle.nested_sheet.specs.declared.rules.End.TheVariants.{At, Fault}
 

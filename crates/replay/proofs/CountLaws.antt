@@ -76,7 +76,7 @@ pub record RunLeft (s sheet : List ℕ) (shape : CacheShape) (run : Both) (from 
   pub complete : each_passes (complete_by (tasks_of s)) left ≡ true
   pub points : Each (InPath position_of done_of (own_task s sheet) (run_in s sheet).path) left
   pub rises : Rises position_of done_of from.position from.done left
-  pub in_path_lem : from.position < length (run_in s sheet).path
+  pub in_path : from.position < length (run_in s sheet).path
   pub done-few : from.done ≤ length (references_at (own_task s sheet) (run_in s sheet).path from.position)
   pub few : CountsFit run (length (own_part s sheet from (own_last s sheet)))
   pub same : on_from s sheet shape run from left ≡ whole s sheet shape
@@ -174,12 +174,12 @@ module _ (s sheet : List ℕ) (shape : CacheShape) (h : Passed13 s sheet) (block
   pub run_start : {run : Both} {long : ℕ} → run ≡ both_first (direct 32) → long ≡ get_or sheet 1 0 → RunLeft s sheet shape run first_point (3 + long)
   run_start er e = record {
     left = r.preemptions;
-    numbers-at = ap (λ l. drop (3 + l) sheet) (e ∙ facts.places.long-at) ∙ facts.places.list_at;
+    numbers-at = ap (λ l. drop (3 + l) sheet) (e ∙ facts.places.long-at) ∙ facts.places.list-at;
     rules = facts.rules.each;
     complete = both_right (complete_path tp r.path) (each_passes (complete_by ts) r.preemptions) h.complete;
     points = all-points;
     rises = rises-all r.preemptions facts.rules.rising;
-    in_path_lem = some;
+    in_path = some;
     done-few = omega arith;
     few = rw er room;
     same = ap (λ (b : Both). on_from s sheet shape b first_point r.preemptions) er;
@@ -266,7 +266,7 @@ module _ (s sheet : List ℕ) (shape : CacheShape) (h : Passed13 s sheet) (block
           complete = z.complete;
           points = z.points;
           rises = z.rises;
-          in_path_lem = z.point.0;
+          in_path = z.point.0;
           done-few = next-few;
           few = subst (λ (b : Both). CountsFit b (length (own_part s sheet (point_of z.first) (own_last s sheet)))) (sym e2) few-own;
           same = ap (λ (b : Both). on_from s sheet shape b (point_of z.first) z.rest) here ∙ sym (events_refs k (own_part s sheet from (point_of z.first)) run _) ∙ z.same;

@@ -12,7 +12,7 @@ use lib.Dec.{eqb}
 use lib.ListN.{length, take, drop, length-drop, take-append-drop}
 use lib.Seq.{take_all, drop-drop, take-add}
 use borrow.Author.Tests.{eqb-true, eqb-false}
-use Rattle.model.specs.Tasks.{Block, Task, block, references}
+use Rattle.model.specs.Tasks.{Task, block, references}
 use Rattle.model.specs.Runs.{NotBefore}
 use Rattle.model.proofs.Taken.{Before}
 use Rattle.runs.specs.Parts.{between, references_at}

@@ -9,7 +9,7 @@ use native.Mathlib.Omega.{arith}
 use lib.ListN.{length, drop, length-append, length-take, length-drop}
 use Rattle.cache.specs.Cache.{Cache, hits, misses}
 use Rattle.cache.proofs.Sums.{bit_le}
-use Rattle.model.specs.Tasks.{Block, Task, block, references}
+use Rattle.model.specs.Tasks.{Task, block, references}
 use Rattle.model.specs.Runs.{RowCount, own_references}
 use Rattle.body.specs.Layout.{InBounds}
 use Rattle.body.proofs.Decoded.{few-references}

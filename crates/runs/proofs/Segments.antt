@@ -5,21 +5,20 @@ use mathlib.Core.Path.{◌≡◌, refl, sym, ap, ap₂, ◌∙◌}
 use mathlib.Core.Logic.{◌⊎◌, inl, inr}
 use mathlib.Core.Bool.{Bool, true, false, ◌&&◌, and-false}
 use mathlib.Core.List.{List, [], ◌∷◌, ◌++◌}
-use Prim.Native.Nat.{ℕ, suc, ◌+◌, ◌-◌, ◌≤◌, ◌<◌}
+use Prim.Native.Nat.{ℕ, suc, ◌-◌, ◌≤◌, ◌<◌}
 use native.Mathlib.Omega.{arith}
 use lib.Dec.{eqb}
 use lib.ListN.{length, get_or, drop, length-drop}
 use lib.Seq.{drop-cons}
 use borrow.Author.Tests.{eqb-true, eqb-false, eq-eqb, ne_eqb}
 use Rattle.model.specs.Lists.{Each}
-use Rattle.model.specs.Tasks.{Block, Task, block, Done, references}
+use Rattle.model.specs.Tasks.{Task, block, Done, references}
 use Rattle.model.specs.Runs.{Preemption, NotBefore, NeverFall, Point, points_from, block_points, points}
 use Rattle.model.proofs.Events.{Event, Ref, Preempt, refs}
 use Rattle.model.proofs.Taken.{Before, before-from, before_differs, after_differs, incoming}
 use Rattle.model.proofs.Incoming.{refs_join, comings, events_of, run-quiet}
 use Rattle.model.proofs.RunEvents.{position_of, done_of}
 use Rattle.runs.specs.Parts.{between, references_at, last_point}
-use Rattle.runs.specs.declared.part.PathPoint.{PathPoint}
 use Rattle.runs.proofs.PartLaws.{drop-next, from-entry, between_none, between_next, between-block, between-end}
 
 pub done_le : (ms : List ℕ) (d : ℕ) → Done ms d → d ≤ length ms

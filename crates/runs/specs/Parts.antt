@@ -1,7 +1,7 @@
 -- Document 02, Point 6: the references of a part of a path, from point to point. A point is a position in the path, and how many references of the
 -- block there are done. Definitions only.
 use Rattle.std.specs.Prelude.{cond, List, [], ◌∷◌, ◌++◌, ℕ, zero, suc, ◌-◌, ◌≤◌, ◌<◌, eqb, length, get_or, take, drop}
-use Rattle.model.specs.Tasks.{Block, Task, Path, block}
+use Rattle.model.specs.Tasks.{Task, Path, block}
 use Rattle.model.specs.Runs.{NotBefore}
 use Rattle.runs.specs.declared.part.PathPoint.{PathPoint}
 

@@ -13,7 +13,7 @@ use borrow.Author.Tests.{eqb-true, eqb-false, eq-eqb, ne_eqb, ltb-true, lt-ltb, 
 use Rattle.model.specs.Lists.{Each}
 use Rattle.model.specs.Runs.{Preemption, NotBefore, NeverFall}
 use Rattle.model.proofs.Membership.{or_cases, both_left, both_right}
-use Rattle.sheet.specs.Sheet.{SheetRun, preemption_numbers, sheet_numbers, longest_path, PathInBounds, PreemptionInRules, InRules, Keeps, Fault12}
+use Rattle.sheet.specs.Sheet.{SheetRun, preemption_numbers, sheet_numbers, longest_path, PathInBounds, PreemptionInRules, InRules, Fault12}
 use Rattle.sheet.specs.Parsed.{ParsedList, broken_list, parsed_list, with_preemption, path_test, not_before, preemption_test, preemptions_from, Parsed, broken, parsed, with_path, after_path, parse, kept_sheet, run_of}
 
 -- ---- points that never fall, from the point (low, lowDone) on

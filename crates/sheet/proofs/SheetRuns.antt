@@ -9,10 +9,10 @@ use Prim.Native.Nat.{ℕ, ◌≤◌}
 use native.Mathlib.Omega.{arith}
 use lib.ListN.{length, get_or}
 use Rattle.model.specs.Lists.{Each}
-use Rattle.model.specs.Tasks.{Block, Task, block, Unmasked, Done, Complete, task}
+use Rattle.model.specs.Tasks.{Task, block, Unmasked, Done, Complete, task}
 use Rattle.model.specs.Runs.{Preemption, Preempts, DisturbedRun}
 use Rattle.model.proofs.Membership.{both_left, both_right}
-use Rattle.sheet.specs.Sheet.{SheetRun, sheet_numbers, longest_path, PathInBounds, PreemptionInRules, InRules, AllComplete, RightDone, Fault13, AvoidsMasked, Fault16, Fits, sheet_run}
+use Rattle.sheet.specs.Sheet.{SheetRun, sheet_numbers, longest_path, PreemptionInRules, InRules, AllComplete, RightDone, Fault13, AvoidsMasked, Fault16, Fits, sheet_run}
 use Rattle.sheet.specs.Parsed.{parsed, parse, complete_all, done_all, unmasked_all}
 use Rattle.sheet.proofs.Parsing.{parse-numbers, Parses, parsed-rules, one-run}
 use Rattle.sheet.proofs.CompletePaths.{all-complete, all_done_lem, all-unmasked}

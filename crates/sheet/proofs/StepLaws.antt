@@ -13,7 +13,7 @@ use Rattle.cache.specs.References.{All}
 use Rattle.cache.specs.Sets.{in_set}
 use Rattle.cache.proofs.Masks.{bits_test}
 use Rattle.model.specs.Lists.{mem, Each}
-use Rattle.model.specs.Tasks.{Block, Task, block}
+use Rattle.model.specs.Tasks.{Task, block}
 use Rattle.model.proofs.Membership.{all_of_lem}
 use Rattle.body.specs.Layout.{BlockInBounds, InBounds}
 use Rattle.body.specs.Jumps.{jump_sets}

@@ -3,7 +3,7 @@
 use Rattle.std.specs.Prelude.{Bool, true, false, not, ◌&&◌, ◌||◌, cond, List, [], ◌∷◌, ℕ, zero, suc, ◌-◌, eqb, ltb, leb, length, get_or, take, drop}
 use Rattle.cache.specs.Sets.{in_set}
 use Rattle.model.specs.Lists.{mem}
-use Rattle.model.specs.Tasks.{Block, Task, Path, block, end, task}
+use Rattle.model.specs.Tasks.{Task, Path, block, end, task}
 use Rattle.model.specs.Runs.{Preemption}
 use Rattle.model.specs.Computed.{unmasked}
 use Rattle.sheet.specs.Sheet.{SheetRun, Sheet, longest_path}

@@ -2,7 +2,7 @@
 -- sheet, and Point 6: points of two numbers. Definitions only.
 use Rattle.std.specs.Prelude.{◌≡◌, ◌≢◌, List, [], ◌∷◌, ◌++◌, ℕ, ◌≤◌, ◌<◌, length, get_or}
 use Rattle.model.specs.Lists.{Each}
-use Rattle.model.specs.Tasks.{Block, Task, block, Unmasked, Done, Path, Complete, task}
+use Rattle.model.specs.Tasks.{Task, block, Unmasked, Done, Path, Complete, task}
 use Rattle.model.specs.Runs.{Preemption, NeverFall, DisturbedRun}
 
 -- what a run sheet says: task p, its path, and the preemptions

@@ -81,7 +81,7 @@ module _ (test : Preemption → Bool) (s sheet : List ℕ) where
   pub each_start : SheetFacts s sheet → {k : ℕ} → k ≡ get_or sheet 1 0 → EachLeft test s sheet (3 + k)
   each_start f e = record {
     left = (run_in s sheet).preemptions;
-    numbers-at = ap (λ k. drop (3 + k) sheet) (e ∙ f.places.long-at) ∙ f.places.list_at;
+    numbers-at = ap (λ k. drop (3 + k) sheet) (e ∙ f.places.long-at) ∙ f.places.list-at;
     rules = f.rules.each;
     same = refl;
   }

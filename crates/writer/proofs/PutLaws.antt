@@ -7,9 +7,8 @@ use native.Mathlib.Nat.{add-zero, add-suc, suc-add}
 use native.Mathlib.Numerals.{add-one}
 use native.Mathlib.Omega.{arith}
 use lib.ListN.{length, get_or, take, drop, set, replicate, length-append, length-drop, length-replicate, take-append-drop, drop_of_length-le}
-use lib.Seq.{drop-cons, length-take-le, sets, sets-eq}
-use borrow.Rule.Slice.PartMut.{put_mid}
-use Rattle.cache.proofs.Copies.{copied}
+use lib.Seq.{drop-cons, drop-drop, length-take-le, sets, sets-eq}
+use borrow.Rule.Slice.PartMut.{put_mid, post_of}
 use Rattle.body.specs.Layout.{two_bytes}
 use Rattle.project.specs.File.{mark, reserve, contents_start, bodies_start, joined, contents_of, file_in}
 use Rattle.project.specs.Writing.{total, cut, file_length}
@@ -22,10 +21,12 @@ sets-append [] ws l i = ap (λ k. sets l k ws) (sym (add-zero i))
 sets-append (a ∷ vs) ws l i =
     sets-append vs ws (set l i a) (suc i) ∙ ap (λ k. sets (sets (set l i a) (suc i) vs) k ws) (suc-add i (length vs) ∙ sym (add-suc i (length vs)))
 
--- bytes copied into the part from `at` on
-pub bytes_copied : (out piece : List ℕ) (at : ℕ) {new : List ℕ} → at + length piece ≤ length out
-    → new ≡ take (length piece) piece ++ drop (length piece) (take (length out - at) (drop at out)) → put_mid at (length out - at) out new ≡ sets out at piece
-bytes_copied out piece at h e = copied out piece at h e ∙ sym (sets-eq piece out at h ∙ append_assoc (take at out) piece (drop (at + length piece) out))
+-- bytes copied into the part from `at` on that is as long as they are
+pub bytes_copied : (out piece : List ℕ) (at : ℕ) → at + length piece ≤ length out → put_mid at (at + length piece - at) out piece ≡ sets out at piece
+bytes_copied out piece at h =
+    let k : at + length piece - at ≡ length piece = omega arith in
+    let rest : post_of at (at + length piece - at) out ≡ drop (at + length piece) out = ap (λ (n : ℕ). post_of at n out) k ∙ drop-drop (length piece) at out in
+    ap (λ (q : List ℕ). take at out ++ (piece ++ q)) rest ∙ sym (sets-eq piece out at h ∙ append_assoc (take at out) piece (drop (at + length piece) out))
 
 -- a turn of the loop over lengths
 pub entry_turn : (start : ℕ) (ls out : List ℕ) {next : List ℕ} (offset j : ℕ) → j < length ls → next ≡ sets out (start + 4 * j) (two_bytes (offset ∷ get_or ls j 0 ∷ []))

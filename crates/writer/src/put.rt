@@ -14,7 +14,7 @@ fn put_bytes(out: &mut [u8], at: usize, piece: &[u8])
     requires { at + length piece.now ≤ length out.old }
     ensures { out.new ≡ sets out.old at piece.now }
 {
-    bytes::copy(piece, &mut out[at..]);
+    out[at..at + piece.len()].copy_from_slice(piece);
 }
 
 // The offset and the length of a body are put at at, each as two bytes, low byte first.

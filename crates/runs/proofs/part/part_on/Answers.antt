@@ -9,7 +9,7 @@ use Rattle.body.specs.Decode.{decode, task_of}
 use Rattle.runs.specs.Parts.{done_before}
 use Rattle.body.proofs.Decoded.{few-references}
 use Rattle.runs.proofs.RunLaws.{walked}
-use Rattle.runs.proofs.PartTurns.{begins_here, begins-before, Ends, ends_here, ends-after, part_order, part_numbers}
+use Rattle.runs.proofs.PartTurns.{begins_here, begins-before, Ends, ends_here, ends-after, part_order, part_within, part_numbers}
 use Rattle.runs.proofs.part.part_on.Goals as goal
 use Rattle.runs.proofs.part.part_on.Goals.{After-row_known-2-1, Start, else-x-from, else-x-to, then-x-from, then-x-to}
 
@@ -34,7 +34,7 @@ begin : (c : After-row_known-2-1)
 begin c =
     let args = c.args in
     let t = task_of (decode args.body.now) in
-    (elim c.if-x-from.branch [ then-x-from w ↦ begins_here t args.path.now args.from args.to args.x w.if-x-from.true w.2 | else-x-from w ↦ begins-before t args.path.now args.from args.to args.x w.if-x-from.false w.joined-is ])
+    (elim c.if-x-from.branch [ then-x-from w ↦ begins_here t args.path.now args.from args.to args.x w.if-x-from.true w.first-is | else-x-from w ↦ begins-before t args.path.now args.from args.to args.x w.if-x-from.false w.first-is ])
 
 end : (c : After-row_known-2-1)
     → let args = c.args in
@@ -43,7 +43,7 @@ end c =
     let args = c.args in
     let t = task_of (decode args.body.now) in
     let bytes = c.references_on-bytes.result.now in
-    (elim c.if-x-to.branch [ then-x-to w ↦ ends_here t args.path.now args.from args.to args.x bytes w.if-x-to.true w.2 | else-x-to w ↦ ends-after t args.path.now args.from args.to args.x bytes w.if-x-to.false w.joined-is ])
+    (elim c.if-x-to.branch [ then-x-to w ↦ ends_here t args.path.now args.from args.to args.x bytes w.if-x-to.true w.end-is | else-x-to w ↦ ends-after t args.path.now args.from args.to args.x bytes w.if-x-to.false w.end-is ])
 
 order : (c : After-row_known-2-1) → c.if-x-from.first ≤ c.if-x-to.end
 order c =
@@ -51,11 +51,23 @@ order c =
     let got = c.references_on-bytes in
     part_order (task_of (decode start.args.body.now)) start.args.path.now start.args.from start.args.to start.requires.1 start.args.x start.requires.2 start.requires.3 got.result.now got.ensures _ _ (begin c) (end c)
 
-pub slice_bounds-result-count : goal.slice_bounds-result-count
-slice_bounds-result-count c = order c
+within : (c : After-row_known-2-1) → c.if-x-to.end ≤ length c.references_on-bytes.result.now
+within c =
+    let start = c in
+    let got = c.references_on-bytes in
+    part_within (task_of (decode start.args.body.now)) start.args.path.now start.args.from start.args.to start.requires.1 start.args.x start.requires.2 start.requires.3 got.result.now got.ensures _ _ (begin c) (end c)
+
+pub slice_bounds-result-start : goal.slice_bounds-result-start
+slice_bounds-result-start c = order (goal.at.slice_bounds-result-start c).After-row_known-2-1
+
+pub slice_bounds-result-end : goal.slice_bounds-result-end
+slice_bounds-result-end c = within (goal.at.slice_bounds-result-end c).After-row_known-2-1
 
 pub returns : goal.returns
 returns c =
     let start = c in
     let got = c.references_on-bytes in
     part_numbers (task_of (decode start.args.body.now)) start.args.path.now start.args.from start.args.to start.requires.1 start.args.x start.requires.2 start.requires.3 got.result.now got.ensures _ _ (begin (goal.at.returns c).After-row_known-2-1) (end (goal.at.returns c).After-row_known-2-1)
+
+pub slice_bounds-result-count : goal.slice_bounds-result-count
+slice_bounds-result-count c = order (goal.at.slice_bounds-result-count c).After-row_known-2-1

@@ -1,6 +1,5 @@
 -- `complete::steps_to_end` meets its contract: what is left of the path leads to the end just where the whole path is complete. Assumes nothing.
 use mathlib.Core.Path.{◌∙◌}
-use Prim.Native.Nat.{◌-◌}
 use native.Mathlib.Omega.{arith}
 use Rattle.sheet.proofs.StepLaws.{path-none, path_elsewhere, path_start, step-outside, step_off, step_on, path-end}
 use Rattle.sheet.proofs.complete.steps_to_end.Goals as goal

@@ -9,7 +9,7 @@ returns-then-long-position c =
     let k = c in
     let a = k.args in
     let s = a.sheet.now in
-    test_outside a.tasks a.p a.long a.low a.low-done (get_or s a.at 0) (get_or s (a.at + 1) 0) (get_or s (a.at + 2) 0) (get_or s (a.at + 3) 0) (drop (a.at + 4) s)
+    test_outside a.tasks a.p a.long a.low a.low_done (get_or s a.at 0) (get_or s (a.at + 1) 0) (get_or s (a.at + 2) 0) (get_or s (a.at + 3) 0) (drop (a.at + 4) s)
     k.count-position.ensures.0 k.count.ensures.0 k.count-by.ensures.0 k.not_before.ensures c.if-not_before.true c.if-long-position.true
 
 pub returns-then-tasks-by : goal.returns-then-tasks-by
@@ -17,7 +17,7 @@ returns-then-tasks-by c =
     let k = c in
     let a = k.args in
     let s = a.sheet.now in
-    test_absent a.tasks a.p a.long a.low a.low-done (get_or s a.at 0) (get_or s (a.at + 1) 0) (get_or s (a.at + 2) 0) (get_or s (a.at + 3) 0) (drop (a.at + 4) s)
+    test_absent a.tasks a.p a.long a.low a.low_done (get_or s a.at 0) (get_or s (a.at + 1) 0) (get_or s (a.at + 2) 0) (get_or s (a.at + 3) 0) (drop (a.at + 4) s)
     k.count-position.ensures.0 k.count.ensures.0 k.count-by.ensures.0 k.not_before.ensures c.if-not_before.true c.if-long-position.false c.if-tasks-by.true
 
 pub returns-then-by-p : goal.returns-then-by-p
@@ -25,7 +25,7 @@ returns-then-by-p c =
     let k = c in
     let a = k.args in
     let s = a.sheet.now in
-    test_own a.tasks a.p a.long a.low a.low-done (get_or s a.at 0) (get_or s (a.at + 1) 0) (get_or s (a.at + 2) 0) (get_or s (a.at + 3) 0) (drop (a.at + 4) s)
+    test_own a.tasks a.p a.long a.low a.low_done (get_or s a.at 0) (get_or s (a.at + 1) 0) (get_or s (a.at + 2) 0) (get_or s (a.at + 3) 0) (drop (a.at + 4) s)
     k.count-position.ensures.0 k.count.ensures.0 k.count-by.ensures.0 k.not_before.ensures c.if-not_before.true c.if-long-position.false c.if-tasks-by.false c.if-by-p.true
 
 pub returns-then-not_before : goal.returns-then-not_before
@@ -33,7 +33,7 @@ returns-then-not_before c =
     let k = c in
     let a = k.args in
     let s = a.sheet.now in
-    test_path a.tasks a.p a.long a.low a.low-done (get_or s a.at 0) (get_or s (a.at + 1) 0) (get_or s (a.at + 2) 0) (get_or s (a.at + 3) 0) (drop (a.at + 4) s)
+    test_path a.tasks a.p a.long a.low a.low_done (get_or s a.at 0) (get_or s (a.at + 1) 0) (get_or s (a.at + 2) 0) (get_or s (a.at + 3) 0) (drop (a.at + 4) s)
     k.count-position.ensures.0 k.count.ensures.0 k.count-by.ensures.0 k.not_before.ensures c.if-not_before.true c.if-long-position.false c.if-tasks-by.false c.if-by-p.false
     (path_in_part s (a.at + 4) (get_or s (a.at + 3) 0) c.count-then-not_before.ensures.0 c.path_kept.ensures)
 
@@ -42,5 +42,5 @@ returns c =
     let k = c in
     let a = k.args in
     let s = a.sheet.now in
-    test_low a.tasks a.p a.long a.low a.low-done (get_or s a.at 0) (get_or s (a.at + 1) 0) (get_or s (a.at + 2) 0) (get_or s (a.at + 3) 0) (drop (a.at + 4) s)
+    test_low a.tasks a.p a.long a.low a.low_done (get_or s a.at 0) (get_or s (a.at + 1) 0) (get_or s (a.at + 2) 0) (get_or s (a.at + 3) 0) (drop (a.at + 4) s)
     k.count-position.ensures.0 k.count.ensures.0 k.count-by.ensures.0 k.not_before.ensures c.if-not_before.false

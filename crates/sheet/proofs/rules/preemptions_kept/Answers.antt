@@ -17,13 +17,13 @@ pub returns-then-sheet-at : goal.returns-then-sheet-at
 returns-then-sheet-at c =
     let at = c.loop-k in
     let a = c.args in
-    list-short a.tasks a.p a.long a.all at.k at.low at.low-done (omega arith) a.sheet.now at.at at.invariant.1 c.if-sheet-at.true ∙ at.invariant.2
+    list-short a.tasks a.p a.long a.all at.k at.low at.low_done (omega arith) a.sheet.now at.at at.invariant.1 c.if-sheet-at.true ∙ at.invariant.2
 
 pub returns-else-preemption_kept : goal.returns-else-preemption_kept
 returns-else-preemption_kept c =
     let at = c.loop-k in
     let a = c.args in
-    list-broken a.tasks a.p a.long a.all at.k at.low at.low-done (omega arith) a.sheet.now at.at (omega arith) c.preemption_kept.ensures c.if-preemption_kept.false ∙ at.invariant.2
+    list-broken a.tasks a.p a.long a.all at.k at.low at.low_done (omega arith) a.sheet.now at.at (omega arith) c.preemption_kept.ensures c.if-preemption_kept.false ∙ at.invariant.2
 
 pub loop-k-preserved : goal.loop-k-preserved
 loop-k-preserved c =
@@ -31,10 +31,10 @@ loop-k-preserved c =
     let at = turn.loop-k in
     let a = turn.args in
     let kept = turn.preemption_kept.ensures in
-    let within = list-within a.tasks a.p a.long a.all at.k at.low at.low-done (omega arith) a.sheet.now at.at (omega arith) kept turn.if-preemption_kept.true in (
+    let within = list-within a.tasks a.p a.long a.all at.k at.low at.low_done (omega arith) a.sheet.now at.at (omega arith) kept turn.if-preemption_kept.true in (
       omega arith,
       omega (arith, within, c.count.ensures.0),
-      list_turn a.tasks a.p a.long a.all at.k at.low at.low-done (omega arith) a.sheet.now at.at (omega arith) kept turn.if-preemption_kept.true c.count-low.ensures.0 c.count-low_done.ensures.0 c.count.ensures.0
+      list_turn a.tasks a.p a.long a.all at.k at.low at.low_done (omega arith) a.sheet.now at.at (omega arith) kept turn.if-preemption_kept.true c.count-low.ensures.0 c.count-low_done.ensures.0 c.count.ensures.0
           ∙ at.invariant.2,
     )
 
@@ -42,4 +42,4 @@ pub returns : goal.returns
 returns c =
     let at = c.loop-k in
     let a = c.args in
-    list-end a.tasks a.p a.long a.all at.k at.low at.low-done a.sheet.now at.at (omega arith) at.invariant.1 ∙ at.invariant.2
+    list-end a.tasks a.p a.long a.all at.k at.low at.low_done a.sheet.now at.at (omega arith) at.invariant.1 ∙ at.invariant.2

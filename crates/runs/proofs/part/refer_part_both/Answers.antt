@@ -1,0 +1,37 @@
+-- A turn makes the references of the part in the next block in both runs; at the end none is left.
+use Rattle.std.proofs.Common.{◌≤◌, ◌∙◌, arith, ◌+◌, length}
+use Rattle.cache.specs.References.{numbers}
+use Rattle.cache.specs.Shape.{shaped}
+use Rattle.cache.proofs.NumberLaws.{length-numbers}
+use Rattle.body.specs.Decode.{decode, task_of}
+use Rattle.runs.specs.Running.{held, both}
+use Rattle.runs.proofs.PartTurns.{part_left, part_room}
+use Rattle.runs.proofs.BothLaws.{counts_less, counts_after, both_part_turn, both_part_end}
+use Rattle.runs.proofs.part.refer_part_both.Goals as goal
+
+pub refer_both-so_far-requires : goal.refer_both-so_far-requires
+refer_both-so_far-requires c =
+    let t = task_of (decode c.args.body.now) in
+    let now = both (held c.loop-x.undisturbed) (held c.loop-x.disturbed) c.loop-x.so_far in
+    let within : c.loop-x.x ≤ c.args.to.position = omega (arith, c.loop-x-test.true) in
+    let room = part_room t c.args.path.now c.args.from c.args.to c.requires.1 c.loop-x.x c.loop-x.auto.x within c.part_on.result.now c.part_on.ensures in
+    (c.requires.2, counts_less now (length (part_left t c.args.path.now c.args.from c.args.to c.loop-x.x)) (omega (arith, room)) c.loop-x.invariant.0)
+
+pub loop-x-preserved : goal.loop-x-preserved
+loop-x-preserved c =
+    let t = task_of (decode c.args.body.now) in
+    let k = shaped 32 c.args.shape in
+    let left = part_left t c.args.path.now c.args.from c.args.to in
+    let now = both (held c.loop-x.undisturbed) (held c.loop-x.disturbed) c.loop-x.so_far in
+    let next = both (held c.refer_both-so_far.new.undisturbed) (held c.refer_both-so_far.new.disturbed) c.refer_both-so_far.result in
+    let within : c.loop-x.x ≤ c.args.to.position = omega (arith, c.loop-x-test.true) in
+    let bytes = c.part_on.result.now in
+    let room = part_room t c.args.path.now c.args.from c.args.to c.requires.1 c.loop-x.x c.loop-x.auto.x within bytes c.part_on.ensures in (
+      counts_after k (numbers bytes) now next (length (left c.loop-x.x)) (length (left (c.loop-x.x + 1))) c.refer_both-so_far.ensures (omega (arith, room, length-numbers bytes)) c.loop-x.invariant.0,
+      both_part_turn k t c.args.path.now c.args.from c.args.to c.loop-x.x now bytes c.requires.1 c.loop-x.auto.x within c.part_on.ensures c.refer_both-so_far.ensures ∙ c.loop-x.invariant.1,
+    )
+
+pub returns : goal.returns
+returns c =
+    let now = both (held c.loop-x.undisturbed) (held c.loop-x.disturbed) c.loop-x.so_far in
+    both_part_end (shaped 32 c.args.shape) (task_of (decode c.args.body.now)) c.args.path.now c.args.from c.args.to c.loop-x.x now c.loop-x-test.false ∙ c.loop-x.invariant.1
