@@ -1,11 +1,11 @@
 -- The blocks that sets of blocks lead to: the search that finds them, for every 24 sets. Of a task's jumps they are the blocks that paths
 -- lead to; of the jumps turned round, the blocks that paths lead from.
 -- The idea: what is reached was led to, and a block that is done has its set reached.
-use mathlib.Core.Path.{◌≡◌, refl, sym, ap, ap₂, ◌∙◌}
+use mathlib.Core.Path.{◌≡◌, refl, sym, ap₂, ◌∙◌}
 use mathlib.Core.Logic.{◌↔◌, ◌⊎◌, inl, inr}
-use mathlib.Core.Bool.{Bool, true, false, not, ◌&&◌, ◌||◌, cond, false≢true}
+use mathlib.Core.Bool.{Bool, true, false, not, ◌&&◌, cond, false≢true}
 use mathlib.Core.List.{List, [], ◌∷◌, ◌++◌}
-use Prim.Native.Nat.{ℕ, zero, suc, ◌+◌, ◌*◌, ◌-◌, ◌%◌, ◌^◌, ◌≤◌, ◌<◌}
+use Prim.Native.Nat.{ℕ, zero, suc, ◌*◌, ◌-◌, ◌%◌, ◌^◌, ◌<◌}
 use native.Mathlib.Nat.{pow-suc}
 use native.Mathlib.Omega.{arith}
 use lib.Dec.{eqb}
@@ -19,7 +19,7 @@ use Rattle.cache.specs.Sets.{in_set}
 use Rattle.cache.proofs.Masks.{one_at}
 use Rattle.cache.proofs.Members.{in_and, in_or, in_xor, in_power, in_empty, Lowest, lowest}
 use Rattle.model.specs.Lists.{mem}
-use Rattle.model.specs.Tasks.{Task, block, end, PathFrom, stay, step}
+use Rattle.model.specs.Tasks.{Task, end, PathFrom, stay, step}
 use Rattle.model.specs.OnPath.{from_entry, to_end, on_path_below, all_on_path}
 use Rattle.model.proofs.Membership.{or_cases, or_left, or_right}
 use Rattle.model.proofs.Paths.{path_snoc, path-first}

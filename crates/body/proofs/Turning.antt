@@ -1,7 +1,7 @@
 -- Sets turned round: a turn of the loop that makes them, and what they have.
 use mathlib.Core.Path.{◌≡◌, refl, sym, ap, ◌∙◌}
 use mathlib.Core.Bool.{Bool, true, false, false≢true}
-use mathlib.Core.List.{List, [], ◌∷◌, ◌++◌}
+use mathlib.Core.List.{List, ◌∷◌, ◌++◌}
 use Prim.Native.Nat.{ℕ, zero, suc, ◌+◌, ◌-◌, ◌≤◌, ◌<◌}
 use native.Mathlib.Nat.{add-zero, add-suc, suc-add, zero-add}
 use native.Mathlib.Numerals.{add-one}
@@ -12,7 +12,7 @@ use lib.Pow.{pow_mono}
 use borrow.Author.Tests.{ltb-true, ltb-false}
 use Rattle.cache.specs.References.{All}
 use Rattle.cache.specs.Cache.{row_from}
-use Rattle.cache.specs.Sets.{bits, in_set}
+use Rattle.cache.specs.Sets.{in_set}
 use Rattle.cache.proofs.Rows.{length-row_from, row_from-at}
 use Rattle.cache.proofs.Bits.{bits_lt}
 use Rattle.cache.proofs.Masks.{bits_test}

@@ -1,6 +1,6 @@
 -- Where the blocks of a task stand in its body. Definitions only.
 use Rattle.std.specs.Prelude.{Bool, true, false, List, [], ◌∷◌, ◌++◌, ℕ, ◌+◌, ◌-◌, length, replicate}
-use Rattle.model.specs.Tasks.{Block, Task}
+use Rattle.model.specs.Tasks.{Task}
 use Rattle.body.specs.Layout.{block_bytes}
 use Rattle.body.specs.Decode.{Decoded, broken, decoded}
 

@@ -1,5 +1,5 @@
 -- Document 01, "Calls": check 11 of all tasks of a file, and the pair numbers of a file as they stand in a table. Definitions only.
-use Rattle.std.specs.Prelude.{not, ◌&&◌, cond, List, [], ◌++◌, map, ℕ, zero, suc, ◌+◌, eqb, ltb}
+use Rattle.std.specs.Prelude.{not, ◌&&◌, cond, List, [], ◌++◌, map, ℕ, zero, suc, eqb, ltb}
 use Rattle.cache.specs.Cache.{Cache, row_from}
 use Rattle.model.specs.Tasks.{Task}
 use Rattle.project.specs.declared.answers.Check.{Check}

@@ -1,5 +1,5 @@
 -- The memory in which rows are gathered: 32 rows for each of 24 blocks, and for each block how many of them it has. Definitions only.
-use Rattle.std.specs.Prelude.{◌≡◌, ◌≢◌, Bool, true, false, cond, List, [], ◌∷◌, ◌++◌, ℕ, ◌*◌, ◌≤◌, ◌<◌, length, get_or}
+use Rattle.std.specs.Prelude.{◌≡◌, ◌≢◌, Bool, true, false, cond, List, [], ◌∷◌, ◌++◌, ℕ, ◌≤◌, ◌<◌, length, get_or}
 use Rattle.cache.specs.Sets.{in_set}
 use Rattle.model.specs.Lists.{mem}
 use Rattle.model.specs.Computed.{same_list}

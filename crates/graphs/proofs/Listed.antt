@@ -1,7 +1,7 @@
 -- What the two graphs gather is what paths make: `reach_listed` and `live_listed`.
 -- The idea: a step of a graph is a step of a path, forwards for reaching states and backwards for live ones.
 use mathlib.Core.Path.{◌≡◌, refl, sym, ap, ◌∙◌}
-use mathlib.Core.Bool.{Bool, true}
+use mathlib.Core.Bool.{true}
 use mathlib.Core.List.{List, [], ◌∷◌, ◌++◌, map, append_assoc}
 use Prim.Native.Nat.{ℕ, zero, suc, ◌+◌, ◌*◌, ◌-◌, ◌≤◌, ◌<◌}
 use native.Mathlib.Nat.{not-suc-le-zero, zero-add, add-zero, add-suc, suc-add, mul-zero}
@@ -24,10 +24,9 @@ use Rattle.model.proofs.Narrower.{take_replicate}
 use Rattle.model.proofs.Exact.{reaches_on, reaches-first}
 use Rattle.model.proofs.Sorted.{reaching-rows, living-rows, reaching-rising, living-rising}
 use Rattle.model.proofs.Policies.{reaches-long, lives-long}
-use Rattle.body.specs.Layout.{InBounds}
 use Rattle.body.specs.Jumps.{set_of, jump_sets}
 use Rattle.body.proofs.JumpLaws.{jump_at}
-use Rattle.gather.specs.Graph.{Graph, row_at, handed_on, Gets, begins, handed, Listed}
+use Rattle.gather.specs.Graph.{row_at, handed_on, Gets, begins, handed, Listed}
 use Rattle.rows.specs.Rows.{flat}
 use Rattle.rows.proofs.Parts.{after_first, row_within}
 use Rattle.rows.proofs.Overlays.{overlay_empty, overlay-references, overlay-firsts}

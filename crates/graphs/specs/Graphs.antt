@@ -1,5 +1,5 @@
 -- The graphs along which the states of a task are gathered. Definitions only.
-use Rattle.std.specs.Prelude.{Bool, List, [], ◌∷◌, ◌++◌, map, ℕ, zero, suc, ◌*◌, ◌-◌, eqb, length, replicate}
+use Rattle.std.specs.Prelude.{List, [], ◌∷◌, ◌++◌, map, ℕ, zero, suc, ◌*◌, ◌-◌, eqb, length, replicate}
 use Rattle.cache.specs.References.{nothing}
 use Rattle.cache.specs.Cache.{Cache, empty_row, with_references, first_references}
 use Rattle.cache.specs.Sets.{bits}

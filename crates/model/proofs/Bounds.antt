@@ -15,7 +15,7 @@ use Rattle.cache.specs.Cache.{Cache, Policy, one_line, empty_row, misses}
 use Rattle.cache.specs.Sets.{useful_replaced}
 use Rattle.cache.proofs.Rows.{length-empty_row}
 use Rattle.model.specs.Lists.{mem, Each}
-use Rattle.model.specs.Tasks.{Block, Task, block, Done, Allows, Complete, references, memory_blocks, task, Apart, Rules}
+use Rattle.model.specs.Tasks.{Task, block, Done, Allows, Complete, memory_blocks, task, Apart, Rules}
 use Rattle.model.specs.Numbers.{Count}
 use Rattle.model.specs.Runs.{Preemption, Preempts, NeverFall, DisturbedRun, OnceBy, points, U, D, lost_hits}
 use Rattle.model.specs.Computed.{allowed, most_on, pair_number}

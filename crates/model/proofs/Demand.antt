@@ -12,8 +12,8 @@ use Rattle.cache.specs.Cache.{Cache, empty_row, with_references, first_reference
 use Rattle.cache.specs.Sets.{useful_replaced}
 use Rattle.cache.proofs.Rows.{length-empty_row, first_references_fold}
 use Rattle.model.specs.Lists.{Each}
-use Rattle.model.specs.Tasks.{Block, Task, block, SomeUnmasked, Done, Allows, PathFrom, PathTo, Complete, end, references, task, Rules}
-use Rattle.model.specs.Numbers.{Rows, counted, Most}
+use Rattle.model.specs.Tasks.{Task, block, SomeUnmasked, Done, Allows, PathFrom, PathTo, Complete, end, references, task, Rules}
+use Rattle.model.specs.Numbers.{Rows, counted}
 use Rattle.model.specs.Runs.{Preemption, Preempts, DisturbedRun, lost_hits}
 use Rattle.model.specs.Computed.{pair_number}
 use Rattle.model.specs.Demand.{Reached, NonePreempted, Demand3}

@@ -14,7 +14,7 @@ use Rattle.cache.specs.Cache.{Cache, Policy, one_line, empty_row, refer_all, wit
 use Rattle.cache.specs.Firsts.{ahead, firsts_over}
 use Rattle.cache.proofs.Rows.{refer_all-append, ahead-append}
 use Rattle.model.specs.Lists.{mem}
-use Rattle.model.specs.Tasks.{Block, Task, block, Done, PathFrom, stay, step, PathTo, references}
+use Rattle.model.specs.Tasks.{Task, block, Done, PathFrom, stay, step, PathTo, references}
 use Rattle.model.specs.States.{ReachesOn, LivesOn, ReachesPointOn, LivesPointOn, Reaches, Lives, ReachesPoint, LivesPoint}
 use Rattle.model.specs.Computed.{State, same_state, inside, nexts, reaching_states_on, entering_on, entering, up_from, dones}
 use Rattle.model.proofs.Membership.{or_cases, or_left, or_right, one-is, one_has, same_state_self, same_state_true, mem_append_left, mem_append_right, mem-append_cases, states_has, states_only, inside_has, inside_only}

@@ -2,7 +2,7 @@
 -- The idea: a path is a chain of steps of the closure, forwards for reaching states and backwards for live ones, and both ways.
 use mathlib.Core.Path.{◌≡◌, refl, sym}
 use mathlib.Core.Logic.{◌↔◌}
-use mathlib.Core.Bool.{Bool, true}
+use mathlib.Core.Bool.{true}
 use mathlib.Core.List.{List, [], ◌∷◌, ◌++◌, append-nil}
 use Prim.Native.Nat.{ℕ, ◌<◌}
 use native.Mathlib.Nat.{zero-add}
@@ -13,7 +13,7 @@ use Rattle.cache.specs.Cache.{Cache, Policy, one_line, empty_row, refer_all, wit
 use Rattle.cache.specs.Firsts.{ahead}
 use Rattle.cache.proofs.Rows.{refer_all-append, ahead-append}
 use Rattle.model.specs.Lists.{mem}
-use Rattle.model.specs.Tasks.{Block, Task, block, end, PathFrom, stay, step, Complete, references}
+use Rattle.model.specs.Tasks.{Task, block, end, PathFrom, stay, step, Complete, references}
 use Rattle.model.specs.States.{ReachesOn, LivesOn, Reaches, Lives}
 use Rattle.model.specs.Computed.{State, same_state, inside, reach_next, reach_start, predecessors_from, live_next, live_start, rounds, reaching_states_on, live_states_on, reaching_states, live_states}
 use Rattle.model.proofs.Membership.{one-is, one_has, same_state_self, same_state_true, states_has, states_only, inside_has, inside_only}

@@ -15,7 +15,7 @@ use Rattle.cache.specs.Cache.{Cache, Policy, one_line, empty_row, refer_all}
 use Rattle.cache.specs.Firsts.{ahead}
 use Rattle.cache.proofs.Rows.{refer_all-append, ahead-append}
 use Rattle.model.specs.Lists.{mem, Each}
-use Rattle.model.specs.Tasks.{Block, Task, block, end, PathFrom, stay, step, Complete, references}
+use Rattle.model.specs.Tasks.{Task, block, end, PathFrom, stay, step, Complete, references}
 use Rattle.model.specs.States.{LivesOn}
 use Rattle.model.specs.Numbers.{Count}
 use Rattle.model.specs.Runs.{Point, points_from, block_points, points}

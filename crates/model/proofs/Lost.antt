@@ -18,7 +18,7 @@ use Rattle.cache.specs.Sets.{useful, replaces, useful_replaced}
 use Rattle.cache.proofs.Sums.{sum_cong, sum_le, sum_add, sum_zero, sum-at}
 use Rattle.cache.proofs.Rows.{held_beyond, length-empty_row, held-empty_row, length-with_reference, length-with_references, length-firsts_over, held-with_reference, Effect, kept, given, effect}
 use Rattle.model.specs.Numbers.{Count}
-use Rattle.model.proofs.Events.{Event, Ref, Preempt, own, refs, preemptions, disturbed, lost, gained, agree, total, gap, Parts, Clean}
+use Rattle.model.proofs.Events.{Event, Ref, Preempt, own, refs, preemptions, disturbed, lost, gained, agree, total, gap, Clean}
 
 -- ---- one cache block, with d in the disturbed and u in the undisturbed cache
 

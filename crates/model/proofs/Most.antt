@@ -15,14 +15,14 @@ use Rattle.cache.specs.Cache.{Cache, Policy, one_line}
 use Rattle.cache.specs.Sets.{useful, replaces, useful_replaced, useful_used}
 use Rattle.cache.proofs.Sums.{count_le}
 use Rattle.model.specs.Lists.{mem, best}
-use Rattle.model.specs.Tasks.{Block, Task, block, Unmasked, SomeUnmasked, Done, Allows, AllDone, end}
+use Rattle.model.specs.Tasks.{Task, block, Unmasked, SomeUnmasked, Done, Allows, AllDone, end}
 use Rattle.model.specs.States.{ReachesOn, LivesOn, Reaches, Lives}
 use Rattle.model.specs.Numbers.{Count, RowsOn, Rows, counted, MostOn, Most, PairNumber, UsedNumber, NumberAtEnds, NumberOverAll}
 use Rattle.model.specs.Computed.{State, same_list, same_state, reaching_states_on, live_states_on, rows_at, entering_on, unmasked, dones, allowed, all_done, done_row_on, left_row_on, most_on, done_row, left_row, most, pair_number, used_number}
 use Rattle.model.proofs.Membership.{or_cases, or_left, or_right, eqb_self, one-is, one_has, same_list_self, same_list_true, same_state_self, same_state_true}
 use Rattle.model.proofs.Exact.{any-reaching_exact, any-live_exact}
 use Rattle.model.proofs.Policies.{Lawful, one_lawful}
-use Rattle.model.proofs.Entering.{EntersOn, Enters, any-entering_exact, dones_exact, done_all_lem, any-at_point, any-live_point, BeforePointOn, any_point_before, AfterPointOn, any_point_after, point_inside}
+use Rattle.model.proofs.Entering.{EntersOn, Enters, any-entering_exact, dones_exact, done_all_lem, any-at_point, any-live_point, any_point_before, any_point_after, point_inside}
 
 -- ---- the largest value
 

@@ -7,7 +7,7 @@ use native.Mathlib.Nat.{zero-add, suc-add}
 use native.Mathlib.Omega.{arith}
 use lib.ListN.{length, take, replicate}
 use Rattle.cache.specs.References.{nothing}
-use Rattle.cache.specs.Cache.{Cache, wide, direct, empty_row, with_references, first_references}
+use Rattle.cache.specs.Cache.{wide, direct, empty_row, with_references, first_references}
 use Rattle.cache.proofs.Rows.{length-empty_row, length-with_references, length-firsts_over, first_references_fold}
 use Rattle.model.proofs.Wider.{run_row, next_row}
 use Rattle.model.proofs.Width.{wider}

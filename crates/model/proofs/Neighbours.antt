@@ -2,7 +2,7 @@
 -- The tasks of file E keep the rules, and their runs are computed.
 use mathlib.Core.Path.{◌≡◌, refl}
 use mathlib.Core.Logic.{inl}
-use mathlib.Core.Bool.{true, ◌&&◌, false≢true}
+use mathlib.Core.Bool.{◌&&◌, false≢true}
 use mathlib.Core.List.{List, [], ◌∷◌}
 use Prim.Native.Nat.{ℕ, zero, suc, ◌≤◌, ◌<◌}
 use native.Mathlib.Omega.{arith}
@@ -13,12 +13,12 @@ use Rattle.cache.specs.References.{nothing, Real, All}
 use Rattle.cache.specs.Cache.{Cache, direct, held, first_references, one_line}
 use Rattle.cache.specs.Sets.{replaces, useful_replaced, useful_used}
 use Rattle.model.specs.Lists.{best}
-use Rattle.model.specs.Tasks.{Block, Task, SomeUnmasked, end, PathFrom, stay, step, Complete, OnCompletePath, references, memory_blocks, task, Rules}
-use Rattle.model.specs.States.{Reaches, Lives}
+use Rattle.model.specs.Tasks.{Task, SomeUnmasked, end, PathFrom, stay, step, OnCompletePath, references, memory_blocks, task, Rules}
+use Rattle.model.specs.States.{Reaches}
 use Rattle.model.specs.Numbers.{Count, NumberOverAll}
 use Rattle.model.specs.Runs.{Preemption, Preempts, DisturbedRun, OnceBy, own_hits, lost_at_end, U, D, lost_hits}
 use Rattle.model.specs.Computed.{State, same_state, close, live_next, rounds, rows_at, reaching_states, entering, allowed, all_done, done_row, left_row, most, pair_number}
-use Rattle.model.specs.Demand.{pair_sum, NonePreempted}
+use Rattle.model.specs.Demand.{pair_sum}
 use Rattle.model.proofs.Sorted.{reaching-rows}
 use Rattle.model.proofs.Hits.{none-lost}
 use Rattle.model.proofs.Bounds.{once_le}

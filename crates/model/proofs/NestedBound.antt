@@ -15,7 +15,7 @@ use Rattle.cache.specs.Firsts.{firsts_over}
 use Rattle.cache.specs.Sets.{useful, useful_replaced}
 use Rattle.cache.proofs.Rows.{length-empty_row}
 use Rattle.model.specs.Lists.{Each}
-use Rattle.model.specs.Tasks.{Block, Task, block, end, Done, Allows, Complete, references, task, Rules}
+use Rattle.model.specs.Tasks.{Task, block, end, Done, Allows, Complete, references, task, Rules}
 use Rattle.model.specs.States.{Reaches}
 use Rattle.model.specs.Runs.{Point, points_from, block_points, points}
 use Rattle.model.specs.Computed.{allowed, pair_number}

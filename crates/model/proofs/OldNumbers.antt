@@ -14,7 +14,7 @@ use Rattle.cache.specs.Cache.{Cache, empty_row, with_references, first_reference
 use Rattle.cache.specs.Sets.{useful_replaced, useful_used}
 use Rattle.cache.proofs.Rows.{first_references_fold}
 use Rattle.model.specs.Lists.{mem, best}
-use Rattle.model.specs.Tasks.{Block, Task, block, Unmasked, AllDone, end, references, memory_blocks, Share}
+use Rattle.model.specs.Tasks.{Task, block, Unmasked, AllDone, end, references, memory_blocks, Share}
 use Rattle.model.specs.States.{Reaches, LivesPoint}
 use Rattle.model.specs.Numbers.{Count, Rows, counted, Most, NumberAtEnds, NumberOverAll}
 use Rattle.model.specs.Computed.{same_list, same_state, reaching_states, live_states, rows_at, entering, allowed, done_row, left_row, most, pair_number, used_number}

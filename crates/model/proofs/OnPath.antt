@@ -11,7 +11,7 @@ use lib.Dec.{eqb}
 use lib.ListN.{length}
 use borrow.Author.Tests.{eqb-true, eqb-false}
 use Rattle.model.specs.Lists.{mem}
-use Rattle.model.specs.Tasks.{Block, Task, block, end, PathFrom, stay, step, Complete, OnCompletePath}
+use Rattle.model.specs.Tasks.{Task, block, end, PathFrom, stay, step, OnCompletePath}
 use Rattle.model.specs.Computed.{inside, predecessors_from}
 use Rattle.model.specs.OnPath.{onward, from_entry, to_end, on_path, on_path_below, all_on_path}
 use Rattle.model.proofs.Membership.{or_cases, or_left, or_right, both_left, both_right, eqb_self, one-is, one_has, inside_has, inside_only, mem_append_left}

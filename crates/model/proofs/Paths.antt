@@ -11,7 +11,7 @@ use lib.Dec.{eqb, ltb}
 use lib.ListN.{length, get_or, get_or-eq_default}
 use borrow.Author.Tests.{eqb-true, ltb-true, ltb-false}
 use Rattle.model.specs.Lists.{mem}
-use Rattle.model.specs.Tasks.{Block, Task, no_block, block, PathFrom, stay, step, Complete, references}
+use Rattle.model.specs.Tasks.{Task, no_block, block, PathFrom, stay, step, Complete, references}
 use Rattle.model.specs.Computed.{predecessors_from}
 use Rattle.model.proofs.Membership.{eqb_self, or_cases, or_left, or_right, mem-append_cases}
 

@@ -8,7 +8,7 @@ use native.Mathlib.Omega.{arith}
 use Rattle.cache.specs.References.{nothing}
 use Rattle.cache.specs.Cache.{direct}
 use Rattle.cache.specs.Sets.{useful_replaced}
-use Rattle.model.specs.Tasks.{Block, Task, block, stay, step, OnCompletePath, task, Rules}
+use Rattle.model.specs.Tasks.{Task, block, stay, step, OnCompletePath, task, Rules}
 use Rattle.model.specs.Numbers.{NumberAtEnds}
 use Rattle.model.specs.Runs.{DisturbedRun, OnceBy, U, D, lost_hits}
 use Rattle.model.specs.Computed.{unmasked, dones, most, pair_number}

@@ -12,7 +12,7 @@ use borrow.Author.Tests.{eq-eqb}
 use Rattle.cache.specs.Sum.{bit}
 use Rattle.cache.specs.Cache.{Cache, Policy, one_line, empty_row, refer_all, with_references, misses_on, misses}
 use Rattle.model.specs.Lists.{Each}
-use Rattle.model.specs.Tasks.{Block, Task, block, Done, references, task}
+use Rattle.model.specs.Tasks.{Task, block, Done, references, task}
 use Rattle.model.specs.Runs.{Preemption, NeverFall, Point, points_from, block_points, points, RowCount, at_first_on, own_references_on, preempted_on, preempted_by_on, with_point, after_point_on, run_on, count_at_end_on, own_references, count_at_end}
 use Rattle.model.proofs.Events.{Event, Preempt, refs, disturbed_on, disturbed}
 use Rattle.model.proofs.Taken.{Before, before_differs, after_differs, taken, InOrder, taken_all}

@@ -9,7 +9,7 @@ use lib.ListN.{get_or}
 use Rattle.cache.specs.References.{nothing}
 use Rattle.cache.specs.Cache.{direct}
 use Rattle.model.specs.Lists.{Each}
-use Rattle.model.specs.Tasks.{Block, Task, block, Done, PathFrom, stay, step, Complete, task, Rules}
+use Rattle.model.specs.Tasks.{Task, block, Done, PathFrom, stay, step, Complete, task, Rules}
 use Rattle.model.specs.Runs.{Preemption, Preempts, DisturbedRun, OnceBy, count_at_end, lost_at_end, U, D, lost_hits}
 use Rattle.model.specs.Computed.{pair_number, used_number}
 use Rattle.model.specs.Figures.{tasks_gain, tasks_both, tasks_same}

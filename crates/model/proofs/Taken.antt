@@ -12,7 +12,7 @@ use lib.Dec.{eqb}
 use lib.ListN.{length, get_or}
 use borrow.Author.Tests.{eqb-true, eqb-false, eq-eqb, ne_eqb}
 use Rattle.model.specs.Lists.{Each, keep}
-use Rattle.model.specs.Tasks.{Block, Task, block, Done}
+use Rattle.model.specs.Tasks.{Task, block, Done}
 use Rattle.model.specs.Runs.{NotBefore, Point, points_from, block_points, points}
 use Rattle.model.proofs.Membership.{both_left, both_right}
 

@@ -14,7 +14,7 @@ use Rattle.cache.specs.References.{nothing}
 use Rattle.cache.specs.Cache.{Policy, refer_all}
 use Rattle.cache.specs.Firsts.{ahead}
 use Rattle.model.specs.Lists.{mem}
-use Rattle.model.specs.Tasks.{Block, Task, block, memory_blocks}
+use Rattle.model.specs.Tasks.{Task, block, memory_blocks}
 use Rattle.model.specs.Computed.{State, same_list, same_state, rounds}
 use Rattle.model.proofs.Policies.{Lawful}
 use Rattle.model.proofs.Membership.{or_left, or_right, eqb_self, same_list_self, same_list_true, same_state_self, same_state_true, mem_append_left, mem_append_right, spread, length_spread, mem_spread}

@@ -12,7 +12,7 @@ use Rattle.cache.specs.Sum.{bit}
 use Rattle.cache.specs.Cache.{Policy, refer_all, misses_on}
 use Rattle.cache.specs.Firsts.{ahead}
 use Rattle.model.specs.Lists.{mem, Each}
-use Rattle.model.specs.Tasks.{Block, Task, block, Allows, end, references}
+use Rattle.model.specs.Tasks.{Task, block, Allows, end, references}
 use Rattle.model.specs.States.{ReachesOn, LivesOn, ReachesPointOn, LivesPointOn}
 use Rattle.model.specs.Numbers.{Count, RowsOn, counted, MostOn}
 use Rattle.model.specs.Order.{before, Rising}

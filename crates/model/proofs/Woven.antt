@@ -12,7 +12,7 @@ use Rattle.cache.specs.Cache.{Cache, held, empty_row, with_reference, with_refer
 use Rattle.cache.proofs.Sums.{sum_le, sum_add}
 use Rattle.cache.proofs.Rows.{length-empty_row, length-with_references, with_references-append, Effect, kept, given, effect}
 use Rattle.model.specs.Lists.{Each}
-use Rattle.model.specs.Tasks.{Block, Task, block, references}
+use Rattle.model.specs.Tasks.{Task, block, references}
 use Rattle.model.specs.Runs.{Point, points_from, block_points, points}
 use Rattle.model.specs.Nested.{Coming, coming_at, all_of, woven}
 use Rattle.model.proofs.Membership.{all_join}

@@ -6,7 +6,7 @@ use Rattle.cache.specs.Cache.{Cache, Row, Policy, one_line, refer_all}
 use Rattle.cache.specs.Firsts.{ahead}
 use Rattle.cache.specs.Sets.{useful_replaced, useful_used}
 use Rattle.model.specs.Lists.{mem, best}
-use Rattle.model.specs.Tasks.{Block, Task, block, end, memory_blocks}
+use Rattle.model.specs.Tasks.{Task, block, end, memory_blocks}
 use Rattle.model.specs.Numbers.{Count}
 use Rattle.model.specs.Order.{before}
 

@@ -1,7 +1,7 @@
 -- Whether each block lies on a complete path, computed; proofs/OnPath shows that it agrees with `OnCompletePath`.
 use Rattle.std.specs.Prelude.{Bool, true, ◌&&◌, List, [], ◌∷◌, ℕ, zero, suc, eqb, length}
 use Rattle.model.specs.Lists.{mem}
-use Rattle.model.specs.Tasks.{Block, Task, block, end}
+use Rattle.model.specs.Tasks.{Task, block, end}
 use Rattle.model.specs.Computed.{inside, close, predecessors_from}
 
 -- the successors of a block that are blocks of the task

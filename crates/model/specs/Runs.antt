@@ -4,7 +4,7 @@ use Rattle.std.specs.Prelude.{◌≡◌, ◌≢◌, ◌⊎◌, Bool, not, ◌&&�
 use Rattle.cache.specs.Sum.{bit}
 use Rattle.cache.specs.Cache.{Cache, Row, hits, with_reference, Policy, one_line, refer_all}
 use Rattle.model.specs.Lists.{Each, keep}
-use Rattle.model.specs.Tasks.{Block, Task, block, Unmasked, Done, Path, Complete, references, task}
+use Rattle.model.specs.Tasks.{Task, block, Unmasked, Done, Path, Complete, references, task}
 
 -- "A preemption is a point .., a task other than p and a complete path of that task."; Point 6: "A point becomes two numbers: the position in the
 -- path, and how many references of that block are done"

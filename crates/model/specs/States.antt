@@ -3,7 +3,7 @@
 use Rattle.std.specs.Prelude.{◌≡◌, ◌≢◌, ◌⊎◌, List, [], ◌∷◌, ◌++◌, ℕ, ◌<◌, length, take, drop}
 use Rattle.cache.specs.Cache.{Cache, Row, Policy, one_line, refer_all}
 use Rattle.model.specs.Lists.{Each}
-use Rattle.model.specs.Tasks.{Block, Task, block, Path, PathFrom, PathTo, end, references}
+use Rattle.model.specs.Tasks.{Task, block, Path, PathFrom, PathTo, end, references}
 
 -- "Reaching states of a block: rows after all its references, over every path from block 0 to it."
 abbrev pub ReachesOn : Policy → Task → ℕ → Row → Type 0

@@ -113,7 +113,7 @@ nested_replayed s h run f =
     let o = nested_sheet_lem (tasks_of s) run f in
     let sheet = nested_sheet (tasks_of s) run in
     let p : SheetPassed s sheet = record {
-      none = rw (tasks_long s) at o.passes;
+      none = subst (λ (k : ℕ). sheet_fault k sheet ≡ 0) (tasks_long s) o.passes;
       right = ap (nested_right (tasks_of s)) o.reads ∙ o.right;
       unmasked = ap (nested_unmasked (tasks_of s)) o.reads ∙ o.unmasked;
     } in

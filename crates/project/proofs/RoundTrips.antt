@@ -1,7 +1,7 @@
 -- Files written and read: a file of an edition, n and bodies has these bodies in its contents, and the file of an accepted file's bodies is that file.
 -- The idea: both go along the contents, four bytes a task, and along the bodies, which stand one after the other.
 use mathlib.Core.Path.{◌≡◌, refl, sym, ap, ◌∙◌}
-use mathlib.Core.Bool.{Bool, true}
+use mathlib.Core.Bool.{true}
 use mathlib.Core.List.{List, [], ◌∷◌, ◌++◌}
 use Prim.Native.Nat.{ℕ, zero, suc, ◌+◌, ◌*◌, ◌/◌, ◌%◌, ◌≤◌, ◌<◌}
 use native.Mathlib.Nat.{div-add-mod, add-mul-div_left, add-mul-mod_self_left, add-zero}
@@ -10,7 +10,7 @@ use lib.Dec.{eqb}
 use lib.ListN.{length, get_or, take, drop, length-append, length-drop, length-replicate, take-append-drop}
 use lib.Seq.{drop-cons, drop-drop, take-append_seam, drop-append_seam, drop-length, drop_at, get_or-drop, length-take-le}
 use borrow.Author.Tests.{eqb-true, eq-eqb}
-use Rattle.cache.specs.References.{All, number_at}
+use Rattle.cache.specs.References.{number_at}
 use Rattle.model.proofs.Membership.{both_left, both_right}
 use Rattle.body.specs.Layout.{two_bytes}
 use Rattle.project.specs.File.{edition, reserve, contents_start, bodies_start, offset_of, size_of, body_of, bodies_from, bodies, joined, contents_of, head_of, file_in}

@@ -2,4 +2,3 @@ pub mod TimesLaws
 pub mod ListLaws
 pub mod PlanLaws
 pub mod ResponseVerdicts
-pub mod ListCaller

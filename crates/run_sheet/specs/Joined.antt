@@ -1,7 +1,6 @@
 -- Document 02, Points 3 and 6: the run that trails join to. Definitions only.
 use Rattle.std.specs.Prelude.{Bool, cond, List, [], ◌∷◌, ◌++◌, ℕ, ◌≤◌, ◌<◌}
 use Rattle.model.specs.Tasks.{Path}
-use Rattle.model.specs.Runs.{Preemption}
 use Rattle.sheet.specs.Sheet.{SheetRun}
 use Rattle.trails.specs.Trails.{length_at, Places, way_back, way_to}
 

@@ -4,7 +4,7 @@ use Rattle.std.specs.Int.Bits.{bit_and}
 use Rattle.std.specs.Int.Count.{ones}
 use Rattle.cache.specs.Cache.{Cache, Row, empty_row, with_references}
 use Rattle.cache.specs.Sets.{in_set}
-use Rattle.model.specs.Tasks.{Block, Task, block}
+use Rattle.model.specs.Tasks.{Task, block}
 use Rattle.model.specs.Computed.{unmasked}
 use Rattle.rows.specs.Rows.{Width}
 use Rattle.points.specs.Points.{rest_of, left_rows, predecessors_of}

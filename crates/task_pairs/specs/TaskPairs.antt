@@ -6,7 +6,7 @@ use Rattle.cache.specs.References.{numbers, Real, All}
 use Rattle.cache.specs.Cache.{Cache, Row, with_references}
 use Rattle.cache.specs.Shape.{shaped, Holds}
 use Rattle.model.specs.Lists.{best}
-use Rattle.model.specs.Tasks.{Block, Task, block}
+use Rattle.model.specs.Tasks.{Task, block}
 use Rattle.model.specs.Computed.{dones, unmasked}
 use Rattle.points.specs.Points.{rest_of, Rests, predecessors_of, rows_before}
 use Rattle.pairs.specs.Pairs.{point_most, EndRows}

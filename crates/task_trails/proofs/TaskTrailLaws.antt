@@ -12,7 +12,7 @@ use Rattle.cache.specs.Cache.{Cache, empty_row, with_references, first_reference
 use Rattle.cache.specs.Firsts.{firsts_over}
 use Rattle.cache.specs.Sets.{in_set}
 use Rattle.cache.proofs.Rows.{with_references-append, firsts_over-append, length-empty_row, length-with_references, length-firsts_over, first_references_fold}
-use Rattle.model.specs.Tasks.{Block, Task, block, end, stay, step, references, memory_blocks}
+use Rattle.model.specs.Tasks.{Task, block, end, stay, step, references, memory_blocks}
 use Rattle.model.proofs.Paths.{path-first, path-last, path_snoc, references_join}
 use Rattle.body.specs.Layout.{InBounds}
 use Rattle.body.specs.Jumps.{jump_sets}

@@ -17,9 +17,9 @@ use Rattle.rows.specs.Overlay.{overlay}
 use Rattle.rows.specs.Rows.{part_of}
 use Rattle.rows.proofs.Parts.{rows-length}
 use Rattle.gather.specs.Graph.{Graph, row_at, handed_on}
-use Rattle.gather.specs.Memory.{held_rows, Memory, with_row, AppendedTo, Handed}
+use Rattle.gather.specs.Memory.{held_rows, with_row, AppendedTo, Handed}
 use Rattle.gather.proofs.Gathering.{none-held, first-held}
-use Rattle.trails.specs.Trails.{held_row, parent_at, length_at, no_trails, Places, Came, began, handed, total, Trailed, Noted}
+use Rattle.trails.specs.Trails.{held_row, length_at, no_trails, Came, began, handed, total, Trailed, Noted}
 
 -- ---- one row more, or none
 

@@ -1,7 +1,6 @@
 -- `walk` meets its contract. The loop's invariant: the blocks passed are those that the body decodes to, before what the bytes still to
 -- come decode to, and their starts are filled in.
 use mathlib.Core.Path.{refl, sym, ◌∙◌}
-use Prim.Native.Nat.{◌-◌}
 use native.Mathlib.Omega.{arith}
 use lib.ListN.{length-set}
 use Rattle.body.proofs.Walks.{passed_start, passed_turn, passed-broken, passed_trailing, answers-broken, answers-kept, decode-short, decode-none, decode-many, decode_odd}

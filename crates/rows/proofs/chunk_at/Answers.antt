@@ -1,6 +1,5 @@
 -- `rows::chunk_at` meets its contract: after i turns the first i numbers are copied. Assumes nothing.
 use mathlib.Core.Path.{refl}
-use Prim.Native.Nat.{◌-◌}
 use native.Mathlib.Omega.{arith}
 use lib.ListN.{drop, length-set}
 use Rattle.rows.proofs.Parts.{copy_turn, copy_end}

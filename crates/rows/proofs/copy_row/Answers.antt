@@ -1,6 +1,6 @@
 -- `rows::copy_row` meets its contract: after h turns the first h chunks are copied. Assumes nothing.
 use mathlib.Core.Path.{refl, sym}
-use Prim.Native.Nat.{◌+◌, ◌-◌, ◌*◌}
+use Prim.Native.Nat.{◌+◌, ◌*◌}
 use native.Mathlib.Omega.{arith}
 use borrow.Author.Rules.{rules}
 use Rattle.rows.proofs.Chunks.{put_turn, put-end}

@@ -1,6 +1,6 @@
 -- `rows::holds_chunk` meets its contract: the row is among the rows that are left just where it is among all. Assumes nothing.
 use mathlib.Core.Path.{sym, ◌∙◌}
-use Prim.Native.Nat.{◌-◌, ◌*◌}
+use Prim.Native.Nat.{◌*◌}
 use native.Mathlib.Omega.{arith}
 use lib.ListN.{drop}
 use Rattle.rows.proofs.Parts.{search_start, search_turn, search_end}

@@ -1,6 +1,6 @@
 -- `rows::holds_row` meets its contract: the row is among the rows that are left just where it is among all. Assumes nothing.
 use mathlib.Core.Path.{sym, ◌∙◌}
-use Prim.Native.Nat.{◌-◌, ◌*◌}
+use Prim.Native.Nat.{◌*◌}
 use native.Mathlib.Omega.{arith}
 use lib.ListN.{length, drop, length-take, length-drop}
 use Rattle.rows.proofs.Parts.{row_within, search_start, search_turn, search_end, one_chunk}

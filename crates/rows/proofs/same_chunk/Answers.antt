@@ -1,7 +1,7 @@
 -- `rows::same_chunk` meets its contract: the flag says whether all places so far agree, and what is left decides the rest. Assumes nothing.
 use mathlib.Core.Path.{◌≡◌, refl, sym, ap, ◌∙◌}
 use mathlib.Core.Bool.{Bool, true, false, ◌&&◌}
-use Prim.Native.Nat.{◌+◌, ◌-◌}
+use Prim.Native.Nat.{◌+◌}
 use native.Mathlib.Omega.{arith}
 use borrow.Author.Rules.{rules}
 use lib.ListN.{length, drop}
@@ -27,12 +27,15 @@ loop-i-preserved c =
     let args = c.args in
     let sixteen : length args.row ≡ 16 = search rules in (
       omega arith,
-      (elim c.if-row-i.branch [ then-row-i w ↦ ap (λ x. x && same_list (drop (at.i + 1) args.row) (drop (at.i + 1) args.other.now)) w.same-is
-          ∙ sym (and-false at.same)
-          ∙ ap (λ x. at.same && x) (sym (same_differ args.row args.other.now at.i (omega arith) (omega arith) w.if-row-i.true))
-          ∙ at.invariant.1 | else-row-i w ↦ ap (λ x. x && same_list (drop (at.i + 1) args.row) (drop (at.i + 1) args.other.now)) w.same-is
-          ∙ ap (λ x. at.same && x) (sym (same_agree args.row args.other.now at.i (omega arith) (omega arith) w.if-row-i.false))
-          ∙ at.invariant.1 ]),
+      (elim c.if-row-i.branch [
+        | then-row-i w ↦ ap (λ x. x && same_list (drop (at.i + 1) args.row) (drop (at.i + 1) args.other.now)) w.same-is
+            ∙ sym (and-false at.same)
+            ∙ ap (λ x. at.same && x) (sym (same_differ args.row args.other.now at.i (omega arith) (omega arith) w.if-row-i.true))
+            ∙ at.invariant.1
+        | else-row-i w ↦ ap (λ x. x && same_list (drop (at.i + 1) args.row) (drop (at.i + 1) args.other.now)) w.same-is
+            ∙ ap (λ x. at.same && x) (sym (same_agree args.row args.other.now at.i (omega arith) (omega arith) w.if-row-i.false))
+            ∙ at.invariant.1
+      ]),
     )
 
 pub returns : goal.returns

@@ -1,10 +1,10 @@
 -- `rows::same_row` meets its contract: what is left of the rows is the same as the whole is. Assumes nothing.
 use mathlib.Core.Path.{refl, sym, ◌∙◌}
-use Prim.Native.Nat.{◌+◌, ◌-◌, ◌*◌}
+use Prim.Native.Nat.{◌+◌, ◌*◌}
 use native.Mathlib.Omega.{arith}
 use lib.ListN.{length-take, length-drop}
 use Rattle.rows.proofs.Overlay.{same_end}
-use Rattle.rows.proofs.Chunks.{was_false, was_true, same_turn}
+use Rattle.rows.proofs.Chunks.{same_turn}
 use Rattle.rows.proofs.same_row.Goals as goal
 
 pub loop-h-init : goal.loop-h-init

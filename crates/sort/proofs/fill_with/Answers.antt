@@ -1,6 +1,5 @@
 -- `sort::fill_with` meets its contract: after i turns the first i numbers are the value. Assumes nothing.
 use mathlib.Core.Path.{refl, ap, ◌∙◌}
-use Prim.Native.Nat.{◌-◌}
 use native.Mathlib.Omega.{arith}
 use borrow.Author.Fill.{fill_more}
 use lib.ListN.{length, set, length-set}

@@ -1,13 +1,13 @@
 -- `sort::insert_row` meets its contract: a turn moves the next row one place to the front, or finds the place of the row.
 -- Assumes nothing.
 use mathlib.Core.Path.{◌≡◌, sym, ap, ◌∙◌}
-use Prim.Native.Nat.{◌+◌, ◌-◌, ◌*◌, ◌≤◌}
+use Prim.Native.Nat.{◌+◌, ◌*◌, ◌≤◌}
 use native.Mathlib.Omega.{arith}
 use borrow.Author.Rules.{rules}
 use lib.ListN.{length, length-take, length-drop}
 use Rattle.model.specs.Order.{before}
 use Rattle.rows.proofs.Parts.{lent_row, next_row}
-use Rattle.sort.proofs.Insertion.{after, inside, lent_part, place_start_lem, once_start, place-last, place_here, place_turn, once_turn}
+use Rattle.sort.proofs.Insertion.{inside, lent_part, place_start_lem, once_start, place-last, place_here, place_turn, once_turn}
 use Rattle.sort.proofs.insert_row.Goals as goal
 use Rattle.sort.proofs.insert_row.Goals.{After-loop-k, In-loop-k}
 

@@ -1,6 +1,6 @@
 -- `sort::move_row` meets its contract: after h turns the first h chunks have moved. Assumes nothing.
 use mathlib.Core.Path.{◌≡◌, refl, ap, ◌∙◌}
-use Prim.Native.Nat.{◌+◌, ◌-◌, ◌*◌}
+use Prim.Native.Nat.{◌+◌, ◌*◌}
 use lib.ListN.{length}
 use Rattle.sort.proofs.Insertion.{move_start, move_turn, moved_length}
 use native.Mathlib.Omega.{arith}

@@ -1,6 +1,5 @@
 -- `sort::stands_before` meets its contract: what is left of the rows compares as the whole does. Assumes nothing.
 use mathlib.Core.Path.{refl, sym, ◌∙◌}
-use Prim.Native.Nat.{◌-◌}
 use native.Mathlib.Omega.{arith}
 use Rattle.sort.proofs.Order.{before_less, before_more, before_same, before-end}
 use Rattle.sort.proofs.stands_before.Goals as goal

@@ -1,7 +1,6 @@
 -- `meet_done` meets its contract: after i turns the numbers are right with the points after the first i references, or become so when the next is met.
 -- Assumes nothing.
 use mathlib.Core.Path.{◌≡◌, refl, sym, ap, ◌∙◌}
-use mathlib.Core.Logic.{inl, inr}
 use mathlib.Core.Bool.{not, false≢true}
 use Prim.Native.Nat.{ℕ, ◌+◌, ◌*◌, ◌-◌, ◌/◌, ◌≤◌, ◌<◌}
 use lib.Dec.{ltb}

@@ -1,6 +1,6 @@
 -- `meet_entering` meets its contract: after p turns the points are met for the rows of those of the first p blocks that are in the set. Assumes nothing.
 use mathlib.Core.Path.{◌≡◌, refl, ◌∙◌}
-use Prim.Native.Nat.{◌+◌, ◌*◌, ◌-◌, ◌≤◌, ◌<◌}
+use Prim.Native.Nat.{◌+◌, ◌*◌, ◌≤◌, ◌<◌}
 use Rattle.cache.specs.References.{numbers as references_in}
 use Rattle.cache.specs.Shape.{shaped}
 use Rattle.cache.proofs.Members.{in_word, out_word}

@@ -1,6 +1,6 @@
 -- `meet_rows` meets its contract: after k turns the points are met for the first k rows. Assumes nothing.
 use mathlib.Core.Path.{◌≡◌, refl}
-use Prim.Native.Nat.{◌+◌, ◌*◌, ◌-◌, ◌≤◌}
+use Prim.Native.Nat.{◌+◌, ◌*◌, ◌≤◌}
 use Rattle.cache.specs.References.{numbers as references_in}
 use Rattle.cache.specs.Shape.{shaped}
 use Rattle.rows.specs.Rows.{rows_of}

@@ -1,7 +1,7 @@
 -- `meet_task` meets its contract: after b turns the points of the unmasked ones among the first b blocks are met. Assumes nothing.
 use mathlib.Core.Path.{◌≡◌, refl, sym, ap, ap₂, ◌∙◌}
 use mathlib.Core.List.{List}
-use Prim.Native.Nat.{ℕ, ◌+◌, ◌*◌, ◌-◌, ◌≤◌, ◌<◌}
+use Prim.Native.Nat.{ℕ, ◌+◌, ◌*◌, ◌≤◌, ◌<◌}
 use lib.ListN.{length, get_or}
 use Rattle.cache.specs.References.{numbers as references_in}
 use Rattle.cache.specs.Sets.{in_set}

@@ -1,6 +1,5 @@
 -- `block::all_real` meets its contract. The loop's invariant: the test of the references from here on gives what the whole gives.
 use mathlib.Core.Path.{◌∙◌}
-use Prim.Native.Nat.{◌-◌}
 use native.Mathlib.Omega.{arith}
 use borrow.Author.Rules.{rules}
 use Rattle.body.proofs.WalksBlock.{real_turn, real_fails, real-end}

@@ -1,6 +1,5 @@
 -- `block::rises_below` meets its contract. The loop's invariant: the test from the last successor passed on gives what the whole gives.
 use mathlib.Core.Path.{◌∙◌}
-use Prim.Native.Nat.{◌-◌}
 use native.Mathlib.Omega.{arith}
 use Rattle.body.proofs.WalksBlock.{rises_start, rises_turn, rises_fails, rises-end, rises-none}
 use Rattle.body.proofs.block.rises_below.Goals as goal

@@ -1,6 +1,5 @@
 -- `jumps::jumps` meets its contract: the sets of the blocks so far, and zeros. Assumes nothing.
 use mathlib.Core.Path.{refl, ◌∙◌}
-use Prim.Native.Nat.{◌-◌}
 use native.Mathlib.Omega.{arith}
 use lib.ListN.{length-set}
 use Rattle.body.proofs.JumpLaws.{jump_turn, jump_end, WalkedTask, walked_task, successors-below}

@@ -1,7 +1,7 @@
 -- `masks::unmasked_blocks` meets its contract: the unmasked blocks found so far are those below b. Assumes nothing.
 -- The idea: the set is built from bit 0 on, one bit a turn, by the flags byte with which the block begins.
 use mathlib.Core.Path.{◌≡◌, sym, ap, ◌∙◌}
-use Prim.Native.Nat.{◌<◌, ◌-◌}
+use Prim.Native.Nat.{◌<◌}
 use native.Mathlib.Omega.{arith}
 use lib.ListN.{length}
 use borrow.Author.Rules.{rules}

@@ -1,6 +1,6 @@
 -- `paths::closure` meets its contract: what is reached was led to, and each block that is done has added its set. Assumes nothing.
 -- The measure falls since each turn has one block more done.
-use Prim.Native.Nat.{◌<◌, ◌-◌}
+use Prim.Native.Nat.{◌<◌}
 use native.Mathlib.Omega.{arith}
 use lib.Bits.{bit_xor}
 use lib.Count.{count_trailing_zeros}

@@ -1,7 +1,5 @@
 -- `paths::has_all` meets its contract: each block passed is in the set. Assumes nothing.
 use mathlib.Core.Path.{◌≡◌, sym, ap, ◌∙◌}
-use mathlib.Core.Bool.{true}
-use Prim.Native.Nat.{◌-◌}
 use native.Mathlib.Omega.{arith}
 use Rattle.body.specs.Jumps.{has_below}
 use Rattle.cache.proofs.Members.{in_word, out_word}

@@ -1,6 +1,5 @@
 -- `paths::set_of` meets its contract: the bits set are the blocks read so far. Assumes nothing.
 use mathlib.Core.Path.{refl, sym, ap, ◌∙◌}
-use Prim.Native.Nat.{◌-◌}
 use native.Mathlib.Omega.{arith}
 use lib.Seq.{take_all}
 use Rattle.body.specs.Jumps.{set_of}

@@ -1,7 +1,6 @@
 -- `predecessors::predecessors` meets its contract: the sets of the blocks so far, and zeros. Assumes nothing.
 -- The idea: each turn stores the set of one block.
 use mathlib.Core.Path.{◌≡◌, refl, ap, ◌∙◌}
-use Prim.Native.Nat.{◌-◌}
 use native.Mathlib.Omega.{arith}
 use lib.ListN.{length-set}
 use Rattle.body.specs.Turned.{leading_to}

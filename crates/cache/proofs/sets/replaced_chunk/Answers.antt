@@ -1,7 +1,7 @@
 -- `sets::replaced_chunk` meets its contract. The loop's invariant: the bits set are the replaced cache blocks below c. Assumes nothing.
 use mathlib.Core.Path.{◌≡◌, refl, ap, ◌∙◌}
 use mathlib.Core.Bool.{true, false, not}
-use Prim.Native.Nat.{ℕ, ◌+◌, ◌≤◌, ◌-◌}
+use Prim.Native.Nat.{ℕ, ◌+◌, ◌≤◌}
 use native.Mathlib.Omega.{arith}
 use borrow.Author.Rules.{rules}
 use borrow.Author.Tests.{eq-eqb, ne_eqb}
@@ -31,9 +31,9 @@ loop-c-preserved c =
       elim c.if-m.branch [
         | then-m w ↦ kept (test false _ (ap not (eq-eqb _ _ w.if-m.true)) refl) w.set-is
         | else-m w ↦ elim c.if-m-reaching.branch [
-            | then-m-reaching v ↦ kept (test true false (ap not (ne_eqb _ _ w.if-m.false)) (ap not (eq-eqb _ _ v.if-m-reaching.true))) (w.set-is ∙ v.other-is)
-            | else-m-reaching v ↦ joined (test true true (ap not (ne_eqb _ _ w.if-m.false)) (ap not (ne_eqb _ _ v.if-m-reaching.false))) (w.set-is ∙ v.other-is)
-          ]
+          | then-m-reaching v ↦ kept (test true false (ap not (ne_eqb _ _ w.if-m.false)) (ap not (eq-eqb _ _ v.if-m-reaching.true))) (w.set-is ∙ v.other-is)
+          | else-m-reaching v ↦ joined (test true true (ap not (ne_eqb _ _ w.if-m.false)) (ap not (ne_eqb _ _ v.if-m-reaching.false))) (w.set-is ∙ v.other-is)
+        ]
       ],
     )
 

@@ -1,7 +1,7 @@
 -- `sets::useful_chunk` meets its contract. The loop's invariant: the bits set are the useful cache blocks below c. Assumes nothing.
 use mathlib.Core.Path.{◌≡◌, refl, ap, ◌∙◌}
 use mathlib.Core.Bool.{true, false, not}
-use Prim.Native.Nat.{ℕ, ◌+◌, ◌≤◌, ◌-◌}
+use Prim.Native.Nat.{ℕ, ◌+◌, ◌≤◌}
 use native.Mathlib.Omega.{arith}
 use borrow.Author.Rules.{rules}
 use borrow.Author.Tests.{eq-eqb, ne_eqb}
@@ -30,9 +30,9 @@ loop-c-preserved c =
       below,
       elim c.if-m-live.branch [
         | then-m-live w ↦ elim c.if-m.branch [
-            | then-m v ↦ kept (test true false (eq-eqb _ _ w.if-m-live.true) (ap not (eq-eqb _ _ v.if-m.true))) (w.set-is ∙ v.used-is)
-            | else-m v ↦ joined (test true true (eq-eqb _ _ w.if-m-live.true) (ap not (ne_eqb _ _ v.if-m.false))) (w.set-is ∙ v.used-is)
-          ]
+          | then-m v ↦ kept (test true false (eq-eqb _ _ w.if-m-live.true) (ap not (eq-eqb _ _ v.if-m.true))) (w.set-is ∙ v.used-is)
+          | else-m v ↦ joined (test true true (eq-eqb _ _ w.if-m-live.true) (ap not (ne_eqb _ _ v.if-m.false))) (w.set-is ∙ v.used-is)
+        ]
         | else-m-live w ↦ kept (test false _ (ne_eqb _ _ w.if-m-live.false) refl) w.set-is
       ],
     )

@@ -1,6 +1,6 @@
 -- `ends::find_ends` meets its contract. The loop's invariant: the end rows of the tasks below j are found, and none of any other. Assumes nothing.
 use mathlib.Core.Path.{◌≡◌}
-use Prim.Native.Nat.{◌+◌, ◌*◌, ◌-◌, ◌≤◌, ◌<◌}
+use Prim.Native.Nat.{◌+◌, ◌*◌, ◌≤◌, ◌<◌}
 use native.Mathlib.Omega.{arith}
 use Rattle.cache.specs.Shape.{shaped}
 use Rattle.model.specs.Tasks.{task}

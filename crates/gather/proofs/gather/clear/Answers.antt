@@ -1,6 +1,5 @@
 -- `gather::clear` meets its contract: after b turns the first b counts are 0. Assumes nothing.
 use mathlib.Core.Path.{refl}
-use Prim.Native.Nat.{◌-◌}
 use native.Mathlib.Omega.{arith}
 use lib.ListN.{length-set}
 use Rattle.gather.proofs.Clearing.{clear_turn, clear_end}

@@ -1,7 +1,7 @@
 -- `gather::hand_on` meets its contract: the blocks of the set before the next one have the row that they get. Assumes nothing.
 -- The idea: between a block of the set and the next one none is in the set.
 use mathlib.Core.Path.{refl, ap}
-use Prim.Native.Nat.{◌+◌, ◌-◌}
+use Prim.Native.Nat.{◌+◌}
 use native.Mathlib.Omega.{arith}
 use lib.ListN.{length, length-take, length-drop}
 use Rattle.rows.specs.Overlay.{overlay}

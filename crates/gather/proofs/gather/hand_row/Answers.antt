@@ -22,7 +22,7 @@ inside c =
 abbrev left_of : Start → List ℕ
 left_of c = overlay (get_or (held_rows c.args.w c.args.rows.now c.args.counts.now c.args.b) c.args.k []) (row_at c.args.w c.args.leaving.now c.args.b)
 
-made : (c : After-overlay_row) → 
+made : (c : After-overlay_row) →
     let left = overlay (get_or (held_rows c.args.w c.args.rows.now c.args.counts.now c.args.b) c.args.k []) (row_at c.args.w c.args.leaving.now c.args.b) in
     (c.overlay_row.new.out ≡ left) × (length left ≡ c.args.w)
 made c =

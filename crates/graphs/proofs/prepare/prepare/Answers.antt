@@ -1,7 +1,7 @@
 -- `prepare::prepare` meets its contract: the rows of the blocks so far, and nothings. Assumes nothing.
 -- The idea: each turn puts the two rows of one block, cut off after w places, after those of the blocks before it.
 use mathlib.Core.Path.{sym, ap, ◌∙◌}
-use Prim.Native.Nat.{◌*◌, ◌-◌}
+use Prim.Native.Nat.{◌*◌}
 use native.Mathlib.Omega.{arith}
 use lib.ListN.{length, take, length-replicate}
 use Rattle.cache.specs.References.{nothing, numbers}

@@ -6,7 +6,7 @@ use Prim.Native.Nat.{ℕ, ◌*◌, ◌≤◌, ◌-◌}
 use lib.ListN.{length}
 use Rattle.cache.specs.Cache.{Cache, empty_row, with_references, first_references}
 use Rattle.cache.specs.Shape.{shaped}
-use Rattle.model.specs.Tasks.{Block, block}
+use Rattle.model.specs.Tasks.{Block}
 use Rattle.body.specs.Decode.{decode, task_of}
 use Rattle.graphs.proofs.Prepared.{rows_to}
 use Rattle.graphs.proofs.prepare.prepare.Given as goal

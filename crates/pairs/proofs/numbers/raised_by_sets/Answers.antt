@@ -1,6 +1,5 @@
 -- `numbers::raised_by_sets` meets its contract: the number so far and the useful sets that are left give the most. Assumes nothing.
 use mathlib.Core.Path.{refl}
-use Prim.Native.Nat.{◌-◌}
 use native.Mathlib.Omega.{arith}
 use Rattle.pairs.proofs.Meeting.{sets_turn, sets_end}
 use Rattle.pairs.proofs.numbers.raised_by_sets.Goals as goal

@@ -1,6 +1,6 @@
 -- `left::rests_in` meets its contract: from d on the rows are those of what is left. Assumes nothing.
 use mathlib.Core.Path.{◌≡◌}
-use Prim.Native.Nat.{◌*◌, ◌-◌, ◌≤◌}
+use Prim.Native.Nat.{◌*◌, ◌≤◌}
 use lib.ListN.{length}
 use Rattle.cache.specs.References.{numbers}
 use Rattle.cache.specs.Shape.{shaped}

@@ -1,6 +1,6 @@
 -- `tasks::first_at_fault` meets its contract: the bodies passed are not at fault. Assumes nothing.
 use mathlib.Core.Path.{sym, ap, ◌∙◌}
-use Prim.Native.Nat.{ℕ, ◌+◌, ◌≤◌, ◌<◌, ◌-◌}
+use Prim.Native.Nat.{ℕ, ◌+◌, ◌≤◌, ◌<◌}
 use lib.ListN.{length, get_or}
 use native.Mathlib.Omega.{arith}
 use Rattle.project.specs.declared.answers.Check.TheVariants.{Refused as Failed}

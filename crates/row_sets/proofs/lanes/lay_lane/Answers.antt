@@ -1,6 +1,5 @@
 -- `lanes::lay_lane` meets its contract: after c turns the first c numbers of the row are laid. Assumes nothing.
 use mathlib.Core.Path.{◌≡◌, refl}
-use Prim.Native.Nat.{◌-◌}
 use native.Mathlib.Omega.{arith}
 use lib.ListN.{length, length-set}
 use Rattle.row_sets.proofs.LaneLaws.{laid_one, kept-one}

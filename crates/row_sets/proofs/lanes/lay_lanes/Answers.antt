@@ -1,6 +1,6 @@
 -- `lanes::lay_lanes` meets its contract: after l turns the first l rows are laid. Assumes nothing.
 use mathlib.Core.Path.{◌≡◌, sym, ap, ◌∙◌}
-use Prim.Native.Nat.{ℕ, ◌+◌, ◌*◌, ◌-◌, ◌≤◌, ◌<◌}
+use Prim.Native.Nat.{ℕ, ◌+◌, ◌*◌, ◌≤◌, ◌<◌}
 use native.Mathlib.Omega.{arith}
 use Rattle.rows.proofs.Parts.{row_within, lent_long}
 use Rattle.row_sets.proofs.LaneLaws.{laid_more, rows_laid}

@@ -1,6 +1,6 @@
 -- `replaced::join_rows` meets its contract: after k turns the row is one for the first k end rows. Assumes nothing.
 use mathlib.Core.Path.{◌≡◌, refl, sym, ap, ◌∙◌}
-use Prim.Native.Nat.{ℕ, ◌+◌, ◌*◌, ◌-◌, ◌≤◌}
+use Prim.Native.Nat.{ℕ, ◌+◌, ◌*◌, ◌≤◌}
 use native.Mathlib.Omega.{arith}
 use Rattle.cache.specs.Sets.{bits}
 use Rattle.rows.specs.Rows.{rows_of}

@@ -1,6 +1,6 @@
 -- `before::over_predecessors` meets its contract: after a turns the first a blocks are searched where they are in the set. Assumes nothing.
 use mathlib.Core.Path.{◌≡◌}
-use Prim.Native.Nat.{◌+◌, ◌*◌, ◌-◌, ◌≤◌}
+use Prim.Native.Nat.{◌+◌, ◌*◌, ◌≤◌}
 use native.Mathlib.Omega.{arith}
 use Rattle.cache.specs.References.{numbers}
 use Rattle.cache.specs.Shape.{shaped}

@@ -1,6 +1,6 @@
 -- `before::refer_first` meets its contract: after i turns the first i references are done. Assumes nothing.
 use mathlib.Core.Path.{◌≡◌, refl, ap, ◌∙◌}
-use Prim.Native.Nat.{ℕ, ◌-◌}
+use Prim.Native.Nat.{ℕ}
 use native.Mathlib.Omega.{arith}
 use lib.ListN.{length, take}
 use Rattle.cache.specs.References.{numbers}

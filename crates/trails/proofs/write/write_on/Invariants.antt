@@ -1,7 +1,7 @@
 -- `write::write_on` meets its contract: the blocks that are written and those that are to come are together the way on. Assumes nothing.
 use mathlib.Core.Path.{◌≡◌}
 use mathlib.Core.List.{◌++◌}
-use Prim.Native.Nat.{◌+◌, ◌-◌, ◌≤◌, ◌<◌}
+use Prim.Native.Nat.{◌-◌, ◌≤◌, ◌<◌}
 use lib.ListN.{length, take}
 use Rattle.trails.specs.Trails.{parent_at, way_back}
 use Rattle.trails.proofs.write.write_on.Given as goal

@@ -1,6 +1,5 @@
 -- `BlockReferences::gather` meets its contract. The loop's invariant is `RowsSoFar`, of the references read. Assumes nothing.
 use mathlib.Core.Path.{ap, ◌∙◌}
-use Prim.Native.Nat.{◌-◌}
 use native.Mathlib.Omega.{arith}
 use lib.Seq.{take_all}
 use borrow.Author.Rules.{rules}
