@@ -1,0 +1,199 @@
+-- `costliest::write_run` meets its contract: the run that the trails of the found rows join to costs the pair number. Assumes nothing.
+use mathlib.Core.Path.{◌≡◌, refl, sym, ap, ◌∙◌}
+use mathlib.Core.Logic.{◌≢◌}
+use Prim.Native.Nat.{ℕ, ◌+◌, ◌*◌, ◌-◌, ◌≤◌, ◌<◌}
+use native.Mathlib.Omega.{arith}
+use lib.Dec.{ltb}
+use lib.ListN.{length, take, drop, length-drop}
+use lib.Seq.{length-take-le}
+use Rattle.cache.specs.Shape.{shaped}
+use Rattle.cache.specs.declared.blocks.CacheShape.{CacheShape}
+use Rattle.model.specs.Tasks.{end, task}
+use Rattle.rows.specs.Rows.{kind_length, area_length}
+use Rattle.rows.proofs.Parts.{row_within}
+use Rattle.project.specs.File.{cache_blocks, task_count}
+use Rattle.project.specs.Tasks.{tasks_of, file_cache_in}
+use Rattle.project.proofs.TaskFaults.{Bytes}
+use Rattle.reader.proofs.TaskBodies.{task-body, task-bounds, body_kept, body-task}
+use Rattle.body.proofs.Decoded.{few-references}
+use Rattle.search.proofs.FoundNumbers.{MakesNumber}
+use Rattle.gather.specs.Memory.{held_rows}
+use Rattle.run_sheet.specs.Joined.{HasTrail, HasTrailBefore}
+use Rattle.costliest.proofs.CostliestVerdicts.{two_tasks}
+use Rattle.costliest.proofs.FoundRows.{all_bytes, file-found, cut_part, few_tasks}
+use Rattle.costliest.proofs.CostliestRuns.{has_before, has_on, has_by, written_run}
+use Rattle.costliest.proofs.write_run.Goals as goal
+use Rattle.costliest.proofs.write_run.Goals.{After-block_count-end, After-find_rows-found, Start}
+
+-- the two tasks are there
+two : (c : Start) → (c.args.i < task_count c.args.file.now) × (c.args.j < task_count c.args.file.now) × (c.args.j ≢ c.args.i)
+two c = two_tasks (task_count c.args.file.now) c.args.i c.args.j c.requires.3
+
+-- the file's cache in rows of w places
+cached : (c : Start) → shaped c.args.w c.args.shape ≡ file_cache_in c.args.w c.args.file.now
+cached c = ap (shaped c.args.w) c.requires.1
+
+room : (c : Start) → cache_blocks c.args.file.now ≤ c.args.w
+room c = omega (arith, c.requires.2.room, ap (λ (x : CacheShape). x.blocks) c.requires.1)
+
+-- the end block of j
+end_is : (c : After-block_count-end) → c.block_count-end.result - 1 ≡ end (task (tasks_of c.args.file.now) c.args.j)
+end_is c =
+    let start = c in
+    let s = start.args.file.now in
+    ap (λ (n : ℕ). n - 1) (c.block_count-end.ensures.0 ∙ ap length (body-task s start.args.j (task-body s start.requires.0 start.args.j ((let here : (c.args.i < task_count c.args.file.now) × (c.args.j < task_count c.args.file.now) × (c.args.j ≢ c.args.i) = two_tasks (task_count c.args.file.now) c.args.i c.args.j c.requires.3 in here)).1) c.task_body.ensures.0))
+
+-- its rows lie in the area
+end-room : (c : After-block_count-end) → 32 * c.args.w * (c.block_count-end.result - 1) + 32 * c.args.w ≤ length c.args.second.now
+end-room c =
+    let start = c in
+    omega (arith, start.requires.6.rows.long, row_within (32 * start.args.w) (c.block_count-end.result - 1) 24 (omega (arith, c.block_count-end.ensures.1, c.block_count-end.ensures.2)))
+
+narrow : (c : After-block_count-end) → (length c.args.second.now ≡ area_length c.args.w) × (c.args.w ≤ 32)
+narrow c = (c.requires.6.rows.long, (c.requires.6.reaching refl).memory.width.narrow)
+
+pub task_body-body-requires : goal.task_body-body-requires
+task_body-body-requires c = (c.requires.0, (two (goal.at.task_body-body-requires c).Start).0)
+
+pub task_body-requires : goal.task_body-requires
+task_body-requires c = (c.requires.0, (two (goal.at.task_body-requires c).Start).1)
+
+pub block_count-end-requires : goal.block_count-end-requires
+block_count-end-requires c =
+    let start = c in
+    let s = start.args.file.now in
+    body_kept s start.args.j (task-body s start.requires.0 start.args.j (two (goal.at.block_count-end-requires c).Start).1) c.task_body.ensures.0
+
+pub overflow_mul-part : goal.overflow_mul-part
+overflow_mul-part c = omega (arith, narrow c)
+
+pub overflow_mul-at : goal.overflow_mul-at
+overflow_mul-at c = omega (arith, end-room c, narrow c)
+
+pub overflow_add-at : goal.overflow_add-at
+overflow_add-at c = omega (arith, end-room (goal.at.overflow_add-at c).After-block_count-end, narrow (goal.at.overflow_add-at c).After-block_count-end)
+
+pub offset_bounds-second-at : goal.offset_bounds-second-at
+offset_bounds-second-at c = omega (arith, end-room (goal.at.offset_bounds-second-at c).After-block_count-end, narrow (goal.at.offset_bounds-second-at c).After-block_count-end)
+
+pub slice_bounds-find_rows-end : goal.slice_bounds-find_rows-end
+slice_bounds-find_rows-end c = omega (arith, end-room (goal.at.slice_bounds-find_rows-end c).After-block_count-end)
+
+pub find_rows-found-requires : goal.find_rows-found-requires
+find_rows-found-requires c =
+    let e = c in
+    let start = c in
+    let s = start.args.file.now in
+    let w = start.args.w in
+    let from = 32 * w * (e.block_count-end.result - 1) in (
+      body_kept s start.args.i (task-body s start.requires.0 start.args.i (two (goal.at.find_rows-found-requires c).Start).0) c.task_body-body.ensures.0,
+      start.requires.2,
+      start.requires.5.rows.long,
+      (start.requires.5.reaching refl).memory,
+      (start.requires.5.live refl).memory,
+      ap length (cut_part (32 * w) from start.args.second.now) ∙ length-take-le (32 * w) (drop from start.args.second.now) (rw (length-drop from start.args.second.now) (omega (arith, end-room (goal.at.find_rows-found-requires c).After-block_count-end))),
+      (start.requires.6.reaching refl).memory.few (e.block_count-end.result - 1) (omega (arith, e.block_count-end.ensures.1, e.block_count-end.ensures.2)),
+    )
+
+-- each number of the file is a byte
+bytes : (c : After-find_rows-found) → Bytes c.args.file.now
+bytes c = all_bytes c.args.file.now (λ a. omega (arith, c.shared_slice_known-1.given a))
+
+-- what is found makes the pair number
+makes : (c : After-find_rows-found)
+    → let start = c in
+    let s = start.args.file.now in
+    let w = start.args.w in
+    let k = kind_length w in
+    MakesNumber (file_cache_in w s) (task (tasks_of s) start.args.i) (task (tasks_of s) start.args.j) (held_rows w (take k start.args.first.now) start.args.own.reached)
+    (held_rows w (take k (drop k start.args.first.now)) start.args.own.lived) (held_rows w (take k start.args.second.now) start.args.other.reached (end (task (tasks_of s) start.args.j))) c.find_rows-found.result
+makes c =
+    let start = c in
+    let s = start.args.file.now in
+    let w = start.args.w in
+    let counted = c in
+    let (hi, hj, ne) = (let here : (c.args.i < task_count c.args.file.now) × (c.args.j < task_count c.args.file.now) × (c.args.j ≢ c.args.i) = two_tasks (task_count c.args.file.now) c.args.i c.args.j c.requires.3 in here) in
+    file-found s (bytes c) start.requires.0 w start.args.i start.args.j hi hj start.requires.5 start.requires.6 ((let here : shaped c.args.w c.args.shape ≡ file_cache_in c.args.w c.args.file.now = ap (shaped c.args.w) c.requires.1 in here))
+    (body-task s start.args.i (task-body s start.requires.0 start.args.i hi) c.task_body-body.ensures.0) ((let here : c.block_count-end.result - 1 ≡ end (task (tasks_of c.args.file.now) c.args.j) = let start = c in let s = start.args.file.now in ap (λ (n : ℕ). n - 1) (c.block_count-end.ensures.0 ∙ ap length (body-task s start.args.j (task-body s start.requires.0 start.args.j ((let here : (c.args.i < task_count c.args.file.now) × (c.args.j < task_count c.args.file.now) × (c.args.j ≢ c.args.i) = two_tasks (task_count c.args.file.now) c.args.i c.args.j c.requires.3 in here)).1) c.task_body.ensures.0)) in here))
+    (cut_part (32 * w) (32 * w * (counted.block_count-end.result - 1)) start.args.second.now) c.find_rows-found.result c.find_rows-found.ensures
+
+-- the places of the found rows have their trails
+before-has : (c : After-find_rows-found)
+    → HasTrailBefore c.find_rows-found.result.point.first c.args.own.to (32 * c.find_rows-found.result.point.before + c.find_rows-found.result.point.reaching)
+before-has c =
+    let start = c in
+    let (hi, hj, ne) = (let here : (c.args.i < task_count c.args.file.now) × (c.args.j < task_count c.args.file.now) × (c.args.j ≢ c.args.i) = two_tasks (task_count c.args.file.now) c.args.i c.args.j c.requires.3 in here) in
+    has_before start.args.file.now (bytes c) start.requires.0 start.args.w ((let here : cache_blocks c.args.file.now ≤ c.args.w = omega (arith, c.requires.2.room, ap (λ (x : CacheShape). x.blocks) c.requires.1) in here)) start.args.i start.args.j hi hj ne (start.requires.5.reaching refl) (start.requires.5.live refl) (start.requires.6.reaching refl) c.find_rows-found.result (makes c)
+
+on-has : (c : After-find_rows-found) → HasTrail c.args.own.on (32 * c.find_rows-found.result.point.block + c.find_rows-found.result.live)
+on-has c =
+    let start = c in
+    let (hi, hj, ne) = (let here : (c.args.i < task_count c.args.file.now) × (c.args.j < task_count c.args.file.now) × (c.args.j ≢ c.args.i) = two_tasks (task_count c.args.file.now) c.args.i c.args.j c.requires.3 in here) in
+    has_on start.args.file.now (bytes c) start.requires.0 start.args.w ((let here : cache_blocks c.args.file.now ≤ c.args.w = omega (arith, c.requires.2.room, ap (λ (x : CacheShape). x.blocks) c.requires.1) in here)) start.args.i start.args.j hi hj ne (start.requires.5.reaching refl) (start.requires.5.live refl) (start.requires.6.reaching refl) c.find_rows-found.result (makes c)
+
+by-has : (c : After-find_rows-found)
+    → HasTrail c.args.other.to (32 * end (task (tasks_of c.args.file.now) c.args.j) + c.find_rows-found.result.ending)
+by-has c =
+    let start = c in
+    let (hi, hj, ne) = (let here : (c.args.i < task_count c.args.file.now) × (c.args.j < task_count c.args.file.now) × (c.args.j ≢ c.args.i) = two_tasks (task_count c.args.file.now) c.args.i c.args.j c.requires.3 in here) in
+    has_by start.args.file.now (bytes c) start.requires.0 start.args.w ((let here : cache_blocks c.args.file.now ≤ c.args.w = omega (arith, c.requires.2.room, ap (λ (x : CacheShape). x.blocks) c.requires.1) in here)) start.args.i start.args.j hi hj ne (start.requires.5.reaching refl) (start.requires.5.live refl) (start.requires.6.reaching refl) c.find_rows-found.result (makes c)
+
+-- few references are done
+few-done : (c : After-find_rows-found) → c.find_rows-found.result.point.done ≤ 16
+few-done c =
+    let start = c in
+    let s = start.args.file.now in
+    let t = task (tasks_of s) start.args.i in
+    omega (arith, (makes c).few, few-references t (task-bounds s start.args.i start.requires.0 ((let here : (c.args.i < task_count c.args.file.now) × (c.args.j < task_count c.args.file.now) × (c.args.j ≢ c.args.i) = two_tasks (task_count c.args.file.now) c.args.i c.args.j c.requires.3 in here)).0) c.find_rows-found.result.point.block)
+
+pub overflow_cast-i : goal.overflow_cast-i
+overflow_cast-i c = omega (arith, (two (goal.at.overflow_cast-i c).Start).0, few_tasks c.args.file.now c.requires.0)
+
+pub overflow_cast-j : goal.overflow_cast-j
+overflow_cast-j c = omega (arith, (two (goal.at.overflow_cast-j c).Start).1, few_tasks c.args.file.now c.requires.0)
+
+pub slice_bounds-write_sheet-end : goal.slice_bounds-write_sheet-end
+slice_bounds-write_sheet-end c = sym c.requires.5.to_long
+
+pub overflow_mul-point : goal.overflow_mul-point
+overflow_mul-point c = omega (arith, (before-has (goal.at.overflow_mul-point c).After-find_rows-found).inside)
+
+pub overflow_add-point : goal.overflow_add-point
+overflow_add-point c = omega (arith, (before-has (goal.at.overflow_add-point c).After-find_rows-found).inside)
+
+pub overflow_cast-point : goal.overflow_cast-point
+overflow_cast-point c = omega (arith, few-done (goal.at.overflow_cast-point c).After-find_rows-found)
+
+pub slice_bounds-write_sheet-end-2 : goal.slice_bounds-write_sheet-end-2
+slice_bounds-write_sheet-end-2 c = sym c.requires.5.on_long
+
+pub overflow_mul-point-2 : goal.overflow_mul-point-2
+overflow_mul-point-2 c = omega (arith, (on-has (goal.at.overflow_mul-point-2 c).After-find_rows-found).inside)
+
+pub overflow_add-point-2 : goal.overflow_add-point-2
+overflow_add-point-2 c = omega (arith, (on-has (goal.at.overflow_add-point-2 c).After-find_rows-found).inside)
+
+pub slice_bounds-write_sheet-end-3 : goal.slice_bounds-write_sheet-end-3
+slice_bounds-write_sheet-end-3 c = sym c.requires.6.to_long
+
+pub overflow_mul-end : goal.overflow_mul-end
+overflow_mul-end c = omega (arith, end_is (goal.at.overflow_mul-end c).After-block_count-end, (by-has (goal.at.overflow_mul-end c).After-find_rows-found).inside)
+
+pub overflow_add-end : goal.overflow_add-end
+overflow_add-end c = omega (arith, (by-has (goal.at.overflow_add-end c).After-find_rows-found).inside, end_is (goal.at.overflow_add-end c).After-block_count-end)
+
+pub write_sheet-length-requires : goal.write_sheet-length-requires
+write_sheet-length-requires c =
+    let e = c in
+    (before-has (goal.at.write_sheet-length-requires c).After-find_rows-found, on-has (goal.at.write_sheet-length-requires c).After-find_rows-found, rw (end_is (goal.at.write_sheet-length-requires c).After-block_count-end) (by-has (goal.at.write_sheet-length-requires c).After-find_rows-found), e.requires.4)
+
+pub returns : goal.returns
+returns c =
+    let e = c in
+    let start = e in
+    let s = start.args.file.now in
+    let (hi, hj, ne) = two (goal.at.returns c).Start in
+    let counted = e in
+    written_run s (bytes (goal.at.returns c).After-find_rows-found) start.requires.0 start.args.w (room (goal.at.returns c).Start) start.args.i start.args.j hi hj ne (start.requires.5.reaching refl) (start.requires.5.live refl) (start.requires.6.reaching refl) e.find_rows-found.result (makes (goal.at.returns c).After-find_rows-found)
+    (ltb 0 e.find_rows-found.result.cost) refl (32 * (counted.block_count-end.result - 1) + e.find_rows-found.result.ending) (ap (λ (n : ℕ). 32 * n + e.find_rows-found.result.ending) (end_is (goal.at.returns c).After-block_count-end)) c.write_sheet-length.ensures.0
+    c.write_sheet-length.ensures.1
