@@ -6,4 +6,4 @@ use Rattle.crpd.specs.declared.Input.TheVariants.{Bytes, Failed}
 -- no more bytes were read than there is room for
 abbrev pub Within : Input → ℕ → Type 0
 Within (Bytes n) room = n ≤ room
-Within Failed room = Unit {0}
+Within (Failed e) room = Unit {0}

@@ -4,37 +4,39 @@
 ghost use Rattle.std.specs.Prelude.{length};
 ghost use Rattle.crpd.specs.Input.{Within};
 
-use libc::{STDERR_FILENO, STDIN_FILENO, STDOUT_FILENO};
 use project::answers::{Filling, NO_TASK};
 use report::report;
+use std::env::FillError;
+use std::io::{IsTerminal, Read};
+use std::rt::{Env, Runtime};
+use std::{fs, io};
 
-// What reading answers: how many bytes now stand at the front, or that a read failed.
-#[derive(Clone, Copy)]
+// What reading answers: how many bytes now stand at the front, or that a read failed, and why.
+#[derive(Drop)]
 enum Input {
     Bytes(usize),
-    Failed,
+    Failed(io::Error),
 }
 
 // Reads once; no bytes at the end of the input. How many are read is up to the system, so the promise is a bound only.
-fn read_some(fd: i32, room: &mut [u8]) -> Input
+fn read_some(input: &mut impl Read, room: &mut [u8]) -> Input
     ensures { Within result (length room.old) }
 {
-    let got = libc::read(fd, room);
-    if got < 0 {
-        return Input::Failed;
+    match input.read(room) {
+        Ok(n) => Input::Bytes(n),
+        Err(error) => Input::Failed(error),
     }
-    Input::Bytes(io::count(got, room))
 }
 
 // Reads until the room is full or the input ends. How many bytes are read is up to the system, so the promise is a bound only.
-fn read_input(fd: i32, room: &mut [u8]) -> Input
+fn read_input(input: &mut impl Read, room: &mut [u8]) -> Input
     ensures { Within result (length room.old) }
 {
     let mut done = 0;
     while done < room.len() {
-        match read_some(fd, &mut room[done..]) {
-            Input::Failed => {
-                return Input::Failed;
+        match read_some(input, &mut room[done..]) {
+            Input::Failed(error) => {
+                return Input::Failed(error);
             }
             Input::Bytes(n) => {
                 if n == 0 {
@@ -48,73 +50,101 @@ fn read_input(fd: i32, room: &mut [u8]) -> Input
 }
 
 // Writes to standard error. Where that fails, there is no place left to tell it.
-fn complain(text: &[u8]) {
-    io::write_all(STDERR_FILENO, text);
+fn complain(rt: &impl Eprint, text: &str) {
+    let _ = rt.eprint(text);
+}
+
+// Writes a number to standard error.
+fn complain_number(rt: &impl Eprint, x: u8) {
+    let _ = rt.eprint(x);
+}
+
+// Writes why something failed to standard error: the system's words, without the number that std puts after them.
+fn complain_of_error(rt: &(impl Eprint + Alloc), error: &io::Error) {
+    match format!(in rt.alloc(); "{error}") {
+        Ok(text) => match text.as_str().split_once(" (os error ") {
+            Some((words, _)) => complain(rt, words),
+            None => complain(rt, text.as_str()),
+        },
+        Err(_) => {
+            let _ = rt.eprint(error);
+        }
+    }
+}
+
+// Writes a line to standard error: what failed, and why.
+fn fail(rt: &(impl Eprint + Alloc), what: &str, error: &io::Error) {
+    complain(rt, what);
+    complain(rt, ": ");
+    complain_of_error(rt, error);
+    complain(rt, "\n");
 }
 
 // Writes when a check of a file fails. Check 1 is about lists, 10 is never given, and those from 12 on belong to other calls.
-fn complain_of_check(check: u8) {
+fn complain_of_check(rt: &impl Eprint, check: u8) {
     match check {
-        2 => complain(b"the file has under 8 or over 7,544 bytes"),
-        3 => complain(b"the first four bytes are not CRPD"),
-        4 => complain(b"the edition is not 1"),
-        5 => complain(b"the number of cache blocks is outside 1 to 16"),
-        6 => complain(b"the number of tasks is outside 1 to 8, or byte 7 is not 0"),
-        7 => complain(b"an offset or a length in the contents is wrong"),
-        8 => complain(b"a body breaks its layout"),
-        9 => complain(b"a block is on no complete path"),
-        11 => complain(b"a block has 33 or more reaching or live states"),
+        2 => complain(rt, "the file has under 8 or over 7,544 bytes"),
+        3 => complain(rt, "the first four bytes are not CRPD"),
+        4 => complain(rt, "the edition is not 1"),
+        5 => complain(rt, "the number of cache blocks is outside 1 to 16"),
+        6 => complain(
+            rt,
+            "the number of tasks is outside 1 to 8, or byte 7 is not 0",
+        ),
+        7 => complain(rt, "an offset or a length in the contents is wrong"),
+        8 => complain(rt, "a body breaks its layout"),
+        9 => complain(rt, "a block is on no complete path"),
+        11 => complain(rt, "a block has 33 or more reaching or live states"),
         _ => {}
     }
 }
 
 // A refusal in words, on one line: "check 8: a body breaks its layout, in task 0".
-fn explain(check: u8, task: u8) {
-    complain(b"check ");
-    io::print_decimal(STDERR_FILENO, check as u64);
-    complain(b": ");
-    complain_of_check(check);
+fn explain(rt: &impl Eprint, check: u8, task: u8) {
+    complain(rt, "check ");
+    complain_number(rt, check);
+    complain(rt, ": ");
+    complain_of_check(rt, check);
     if task != NO_TASK {
-        complain(b", in task ");
-        io::print_decimal(STDERR_FILENO, task as u64);
+        complain(rt, ", in task ");
+        complain_number(rt, task);
     }
-    complain(b"\n");
+    complain(rt, "\n");
 }
 
 // Prints what is printed for the file; a refusal also in words, on standard error.
-fn print_report(file: &[u8]) {
+fn print_report(rt: &(impl Print + Eprint + Alloc), file: &[u8]) {
     let mut area = [0u16; 24832];
     let mut out = [0u8; 2048];
     let told = report(file, &mut area, &mut out);
     let length = told.length;
-    if !io::write_all(STDOUT_FILENO, &out[..length]) {
-        os::fail(b"standard output");
+    if let Err(error) = rt.write_all(&out[..length]) {
+        fail(rt, "standard output", &error);
     }
     let answer = told.answer;
     if let Filling::Refused { check, task } = answer {
-        explain(check, task);
+        explain(rt, check, task);
     }
 }
 
 // Prints the report of what can be read, or the reason why it cannot be read, with the input's name.
 // One byte more than the longest file has is read, so that a file that is too long is known by its length.
-fn print_input(fd: i32, name: &[u8]) {
+fn print_input(rt: &(impl Print + Eprint + Alloc), input: &mut impl Read, name: &str) {
     let mut room = [0u8; 7545];
-    match read_input(fd, &mut room) {
-        Input::Failed => {
-            os::fail(name);
+    match read_input(input, &mut room) {
+        Input::Failed(error) => {
+            fail(rt, name, &error);
         }
         Input::Bytes(n) => {
-            print_report(&room[..n]);
+            print_report(rt, &room[..n]);
         }
     }
 }
 
-// A program of this language has no status of its own to end with.
-fn print_usage(fd: i32) {
-    io::write_all(
-        fd,
-        b"usage: crpd [FILE]\n\
+// The status is not used: a refusal is told in words.
+fn print_usage(to: &impl Print) {
+    let _ = to.print(
+        "usage: crpd [FILE]\n\
 Prints the pair numbers of a project file, or the check that it fails first and the task it names.\n\
 Without FILE it reads standard input. A refusal is the line \"refused CHECK task TASK\", told in words on standard error.\n\
 The status is 0 always.\n",
@@ -122,41 +152,50 @@ The status is 0 always.\n",
 }
 
 // Prints the report of the file of that name, or the reason why it cannot be opened or read.
-fn print_file(path: &[u8]) {
-    let fd = os::open_read(path);
-    if fd < 0 {
-        os::fail(path);
-        return;
+fn print_file(rt: &impl Runtime, path: &str) {
+    match fs::open(rt, path) {
+        Err(error) => {
+            fail(rt, path, &error);
+        }
+        Ok(file) => {
+            let mut input = file;
+            print_input(rt, &mut input, path);
+        }
     }
-    print_input(fd, path);
-    libc::close(fd);
 }
 
 // Takes the one argument: --help, or the name of a file.
-fn take_argument() {
-    let mut word = io::buffer();
-    let length = os::arg(1, &mut word);
-    if os::errno() != 0 {
-        os::fail(b"argument");
-        return;
+fn take_argument(rt: &impl Runtime) {
+    let mut word = [0u8; 4096];
+    match rt.arg(1, &mut word) {
+        Err(FillError::TooLong) => complain(rt, "argument: File name too long\n"),
+        Err(FillError::NotPresent) => complain(rt, "argument: Invalid argument\n"),
+        Ok(length) => match str::from_utf8(&word[..length]) {
+            Err(_) => complain(rt, "argument: not UTF-8\n"),
+            Ok("--help") => print_usage(rt),
+            Ok(path) => print_file(rt, path),
+        },
     }
-    if check::same(&word[..length], b"--help") {
-        print_usage(STDOUT_FILENO);
-        return;
+}
+
+// Whether the program was started with an argument of that number.
+fn has_argument(rt: &impl Env, i: usize) -> bool {
+    let mut none = [0u8; 0];
+    match rt.arg(i, &mut none) {
+        Err(FillError::NotPresent) => false,
+        _ => true,
     }
-    print_file(&word[..length]);
 }
 
 // No name and a terminal as the input: whoever started it is told the usage, and not kept waiting.
-fn main() {
-    let count = os::arg_count();
-    if count > 2 {
-        print_usage(STDERR_FILENO);
-    } else if count == 2 {
-        take_argument();
-    } else if libc::isatty(STDIN_FILENO) == 1 {
-        print_usage(STDERR_FILENO);
+fn main(rt: HostRuntime) {
+    if has_argument(&rt, 2) {
+        print_usage(&rt.stderr());
+    } else if has_argument(&rt, 1) {
+        take_argument(&rt);
+    } else if rt.stdin().is_terminal() {
+        print_usage(&rt.stderr());
     } else {
-        print_input(STDIN_FILENO, b"standard input");
+        print_input(&rt, &mut rt.stdin(), "standard input");
     }
 }
