@@ -14,7 +14,7 @@ use Rattle.cache.specs.Cache.{Cache, empty_row, with_references, first_reference
 use Rattle.cache.specs.Firsts.{firsts_over}
 use Rattle.cache.specs.Sets.{useful_replaced}
 use Rattle.cache.proofs.Rows.{with_references-append, firsts_over-append, first_references_fold}
-use Rattle.model.specs.Tasks.{Block, Task, block, SomeUnmasked, Allows, PathFrom, stay, PathTo, Complete, end, references, task, Rules}
+use Rattle.model.specs.Tasks.{Task, block, SomeUnmasked, Allows, PathFrom, stay, PathTo, Complete, end, references, task, Rules}
 use Rattle.model.specs.Runs.{Preemption, DisturbedRun, own_hits, lost_at_end}
 use Rattle.model.specs.Computed.{pair_number}
 use Rattle.model.proofs.Paths.{path-last, path_snoc}

@@ -1,6 +1,6 @@
 -- Document 02, Point 3, "Show me the run that costs most.", and Points 5 and 6: Costliest run, its checks and its answer, for rows of w places.
 -- Definitions only.
-use Rattle.std.specs.Prelude.{◌≡◌, ◌≢◌, ◌⊎◌, Bool, not, ◌&&◌, ◌||◌, cond, List, [], ◌∷◌, ◌++◌, map, ℕ, suc, ◌+◌, ◌≤◌, ◌<◌, eqb, leb, ltb, length, drop}
+use Rattle.std.specs.Prelude.{◌≡◌, ◌≢◌, ◌⊎◌, Bool, not, ◌&&◌, ◌||◌, cond, List, [], ◌∷◌, ◌++◌, map, ℕ, suc, ◌≤◌, ◌<◌, eqb, leb, ltb, length, drop}
 use Rattle.model.specs.Tasks.{SomeUnmasked, task}
 use Rattle.model.specs.States.{Fault11}
 use Rattle.model.specs.Runs.{DisturbedRun, OnceBy, lost_hits}

@@ -1,18 +1,14 @@
 -- `check_asked` meets its contract: the test that holds first is a part of check 18's, or check 19's. Assumes nothing.
 use mathlib.Core.Path.{◌≡◌, sym, ◌∙◌}
-use mathlib.Core.Logic.{⊎_elim}
-use mathlib.Core.Bool.{true, false, ◌||◌}
+use mathlib.Core.Bool.{true, false}
 use mathlib.Core.List.{List}
 use Prim.Native.Nat.{ℕ}
-use lib.Dec.{eqb, leb}
 use native.Mathlib.Omega.{arith}
 use lib.ListN.{length}
-use borrow.Author.Tests.{eq-eqb, ne_eqb, lt-ltb, le-ltb}
-use Rattle.model.proofs.Membership.{or_left}
+use borrow.Author.Tests.{lt-ltb, le-ltb}
 use Rattle.project.specs.declared.answers.Check.TheVariants.{Passed}
 use Rattle.project.specs.declared.answers.Check.TheVariants.{Refused as Failed}
 use Rattle.project.specs.Checklist.{no_task, verdict_of}
-use Rattle.project.proofs.Heads.{or_second}
 use Rattle.costliest.specs.Costliest.{test18, test19, asked_checks}
 use Rattle.run_sheet.specs.Joined.{costliest_sheet_length}
 use Rattle.std.proofs.lemmas.Bool.Decides.{nat_tests}

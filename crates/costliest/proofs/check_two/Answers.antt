@@ -1,13 +1,10 @@
 -- `check_two` meets its contract: the tests are those of the two tasks, the lower one at fault first. Assumes nothing.
-use mathlib.Core.Path.{◌≡◌, sym, ◌∙◌}
-use mathlib.Core.Logic.{⊎_elim}
+use mathlib.Core.Path.{◌≡◌, sym}
 use mathlib.Core.Bool.{Bool, true, false, not, ◌&&◌, ◌||◌}
 use Prim.Native.Nat.{ℕ}
 use lib.Dec.{ltb}
-use Rattle.model.proofs.Membership.{or_left}
 use Rattle.project.specs.declared.answers.Check.TheVariants.{Passed}
 use Rattle.project.specs.declared.answers.Check.TheVariants.{Refused as Failed}
-use Rattle.project.proofs.Heads.{or_second}
 use Rattle.costliest.specs.Costliest.{two_check}
 use mathlib.Core.Logic.{inl, inr}
 use native.Mathlib.Omega.{arith}

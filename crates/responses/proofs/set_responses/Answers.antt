@@ -2,10 +2,9 @@
 use mathlib.Core.Path.{◌≡◌, ap, ◌∙◌}
 use Prim.Native.Nat.{ℕ}
 use native.Mathlib.Omega.{arith}
-use lib.ListN.{length}
 use Rattle.response.specs.Times.{no_record, with_responses}
 use Rattle.responses.specs.Plan.{plan_response}
-use Rattle.responses.proofs.ListLaws.{set-none, set-length, set_turn}
+use Rattle.responses.proofs.ListLaws.{set-none, set_turn}
 use Rattle.responses.proofs.set_responses.Goals as goal
 
 pub loop-i-init : goal.loop-i-init

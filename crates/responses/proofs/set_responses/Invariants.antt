@@ -1,6 +1,5 @@
 -- The first records have their R, and the others are as they were.
 use mathlib.Core.Path.{◌≡◌}
-use Prim.Native.Nat.{◌≤◌}
 use Rattle.response.specs.Times.{with_responses}
 use Rattle.responses.specs.Plan.{plan_response}
 use Rattle.responses.proofs.set_responses.Given as goal

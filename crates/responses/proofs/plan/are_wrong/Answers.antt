@@ -1,7 +1,6 @@
 -- `are_wrong` meets its contract. Assumes nothing.
 use mathlib.Core.Path.{◌≡◌, refl, sym, ap, ◌∙◌}
-use mathlib.Core.Bool.{false}
-use Prim.Native.Nat.{ℕ, ◌-◌}
+use Prim.Native.Nat.{ℕ}
 use native.Mathlib.Omega.{arith}
 use Rattle.responses.specs.Responses.{any}
 use Rattle.responses.specs.Plan.{wrong_at}
