@@ -1,5 +1,5 @@
 /*
- * The proved calls, for C and C++. Link with target/staticlib/libcrpd_c.a, which "rt staticlib crpd_c" makes. It
+ * The proved calls, for C and C++. Link with target/staticlib/libcrpd_c.a, which tools/library makes. It
  * is built for x86-64 Linux.
  *
  * Lists. A list is a pointer and its number of elements, not of bytes. The pointer is aligned for its element, and

@@ -1,6 +1,6 @@
 //! The proved calls for safe Rust, over the static library of crates/crpd_c; include/crpd.h says what each call does.
 //!
-//! `rustc --crate-type rlib -L target/staticlib rust/crpd.rs`, after `rt staticlib crpd_c`. It is built for x86-64.
+//! `rustc --crate-type rlib -L target/staticlib rust/crpd.rs`, after `bash tools/library`. It is built for x86-64.
 
 /// Numbers of a work area.
 pub const AREA_LENGTH: usize = 24832;

@@ -8,4 +8,3 @@ pub mod Neighbours
 pub mod Bits
 pub mod Masks
 pub mod Members
-pub mod Copies
