@@ -1,4 +1,4 @@
--- Where a run and a list end: what a kept head says, that the end lies in the sheet, and the answers of `run_end_lem` and `list_end` in the code's words.
+-- Where a run and a list end: what a kept head says, that the end lies in the sheet, and the answers of `run_end` and `list_end` in the code's words.
 -- The idea: a list of runs is its first run and the list of the others, so the ends are inductions on the depth and on the runs that are left.
 use mathlib.Core.Path.{◌≡◌, refl, sym, ap, ◌∙◌}
 use mathlib.Core.Bool.{Bool, true, false, ◌&&◌, cond, false≢true}
@@ -120,7 +120,7 @@ Ended s at e r = (r ≡ e) × EndsIn s at r
 ended : (s : List ℕ) (at : ℕ) (e : End) {r : End} → EndsIn s at e → r ≡ e → Ended s at e r
 ended s at e h q = (q, rw q h)
 
--- ---- the answers of `run_end_lem`, where h is that of `head_end`
+-- ---- the answers of `run_end`, where h is that of `head_end`
 
 module _ (t deep around : ℕ) (s : List ℕ) (at : ℕ) {h : End} (eh : h ≡ head_end t around s at) where
   by_head : onwards h (λ next. list_end t deep (bit_or around (2 ^ get_or s at 0)) s (get_or s (at + 1) 0) (get_or s (at + 2 + get_or s (at + 1) 0) 0) 0 0 next)

@@ -1,4 +1,4 @@
--- `all_done_lem` meets its contract: the numbers of references done that are left are right just where all are. Assumes nothing.
+-- `all_done` meets its contract: the numbers of references done that are left are right just where all are. Assumes nothing.
 use mathlib.Core.Path.{◌≡◌, ◌∙◌}
 use native.Mathlib.Omega.{arith}
 use Rattle.sheet_checks.proofs.SheetLaws.{SheetFacts, sheet_facts, NextLeft, each_start, next-left, each-end, each-broken, each_on, own-there, own-within}

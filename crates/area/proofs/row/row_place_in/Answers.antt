@@ -9,7 +9,7 @@ use Rattle.area.proofs.row.row_place_in.Goals.{After-kind_start}
 ends : (c : After-kind_start) → let args = c.args in ((32 * args.block + args.number) * args.w + args.w ≤ 24 * (32 * args.w)) × (args.w ≤ 32)
 ends c =
     let args = c.args in
-    (place-ends args.w args.block args.number (omega (arith, c.if-block-ge24.false)) (omega (arith, c.if-count-gt32.false, c.if-count-number.false)), c.requires)
+    (place-ends args.w args.block args.number (omega arith) (omega arith), c.requires)
 
 pub returns-then-area-w : goal.returns-then-area-w
 returns-then-area-w c =
@@ -19,22 +19,22 @@ returns-then-area-w c =
 pub returns-then-block-ge24 : goal.returns-then-block-ge24
 returns-then-block-ge24 c =
     let args = c.args in
-    block_high args.w args.area.now args.live args.block args.number c.if-area-w.false (omega (arith, c.if-block-ge24.true))
+    block_high args.w args.area.now args.live args.block args.number c.if-area-w.false (omega arith)
 
 pub count_in-count-requires : goal.count_in-count-requires
-count_in-count-requires c = (c.requires, c.if-area-w.false, omega (arith, c.if-block-ge24.false))
+count_in-count-requires c = (c.requires, c.if-area-w.false, omega arith)
 
 pub returns-then-count-gt32 : goal.returns-then-count-gt32
 returns-then-count-gt32 c =
     let counted = c in
     let args = counted.args in
-    count_high args.w args.area.now args.live args.block args.number counted.if-area-w.false (omega (arith, counted.if-block-ge24.false)) counted.count_in-count.ensures (omega (arith, c.if-count-gt32.true))
+    count_high args.w args.area.now args.live args.block args.number counted.if-area-w.false (omega arith) counted.count_in-count.ensures (omega arith)
 
 pub returns-then-count-number : goal.returns-then-count-number
 returns-then-count-number c =
     let counted = c in
     let args = counted.args in
-    number_high args.w args.area.now args.live args.block args.number counted.if-area-w.false (omega (arith, counted.if-block-ge24.false)) counted.count_in-count.ensures (omega (arith, c.if-count-gt32.false)) (omega (arith, c.if-count-number.true))
+    number_high args.w args.area.now args.live args.block args.number counted.if-area-w.false (omega arith) counted.count_in-count.ensures (omega arith) (omega arith)
 
 pub kind_start-requires : goal.kind_start-requires
 kind_start-requires c = c.requires
@@ -49,4 +49,4 @@ pub returns : goal.returns
 returns c =
     let counted = c in
     let args = counted.args in
-    row-there args.w args.area.now args.live args.block args.number counted.if-area-w.false (omega (arith, counted.if-block-ge24.false)) counted.count_in-count.ensures (omega (arith, c.if-count-gt32.false)) (omega (arith, c.if-count-number.false)) c.kind_start.ensures.0
+    row-there args.w args.area.now args.live args.block args.number counted.if-area-w.false (omega arith) counted.count_in-count.ensures (omega arith) (omega arith) c.kind_start.ensures.0
