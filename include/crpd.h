@@ -14,8 +14,8 @@
  * is written.
  *
  * Threads. The calls keep nothing between them, take nothing from the heap and call nothing outside the archive but
- * memcpy and memset, so they may run in several threads at once, on lists that no other thread writes meanwhile.
- * Measured on small and large files alike, crpd_costliest_run takes about 51 KiB of stack, crpd_table about 23 KiB,
+ * memcpy, memmove and memset, so they may run in several threads at once, on lists that no other thread writes
+ * meanwhile. As an older kit built them, measured on small and large files alike, crpd_costliest_run takes about 51 KiB of stack, crpd_table about 23 KiB,
  * crpd_response_times about 24 KiB and each other call about 9 KiB at most, but for crpd_nested: about 7 KiB, and 0.75 KiB
  * more for each run that comes before or around another in its lists, 91 KiB in all for the deepest run at the end of the
  * longest lists. No proof bounds it.
