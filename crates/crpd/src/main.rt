@@ -129,9 +129,10 @@ fn print_report(rt: &(impl Print + Eprint + Alloc), file: &[u8]) {
 
 // Prints the report of what can be read, or the reason why it cannot be read, with the input's name.
 // One byte more than the longest file has is read, so that a file that is too long is known by its length.
-fn print_input(rt: &(impl Print + Eprint + Alloc), input: &mut impl Read, name: &str) {
+fn print_input(rt: &(impl Print + Eprint + Alloc), input: impl Read + Drop, name: &str) {
+    let mut input = input;
     let mut room = [0u8; 7545];
-    match read_input(input, &mut room) {
+    match read_input(&mut input, &mut room) {
         Input::Failed(error) => {
             fail(rt, name, &error);
         }
@@ -158,8 +159,7 @@ fn print_file(rt: &impl Runtime, path: &str) {
             fail(rt, path, &error);
         }
         Ok(file) => {
-            let mut input = file;
-            print_input(rt, &mut input, path);
+            print_input(rt, file, path);
         }
     }
 }
@@ -178,24 +178,22 @@ fn take_argument(rt: &impl Runtime) {
     }
 }
 
-// Whether the program was started with an argument of that number.
-fn has_argument(rt: &impl Env, i: usize) -> bool {
-    let mut none = [0u8; 0];
-    match rt.arg(i, &mut none) {
-        Err(FillError::NotPresent) => false,
-        _ => true,
+// Reads standard input. If that is a terminal, whoever started the program is told the usage, and not kept waiting.
+fn take_input(rt: &HostRuntime) {
+    if rt.stdin().is_terminal() {
+        print_usage(&rt.stderr());
+    } else {
+        print_input(rt, rt.stdin(), "standard input");
     }
 }
 
-// No name and a terminal as the input: whoever started it is told the usage, and not kept waiting.
 fn main(rt: HostRuntime) {
-    if has_argument(&rt, 2) {
-        print_usage(&rt.stderr());
-    } else if has_argument(&rt, 1) {
-        take_argument(&rt);
-    } else if rt.stdin().is_terminal() {
-        print_usage(&rt.stderr());
-    } else {
-        print_input(&rt, &mut rt.stdin(), "standard input");
+    let mut none = [0u8; 0];
+    let second = rt.arg(2, &mut none);
+    let first = rt.arg(1, &mut none);
+    match (second, first) {
+        (Err(FillError::NotPresent), Err(FillError::NotPresent)) => take_input(&rt),
+        (Err(FillError::NotPresent), _) => take_argument(&rt),
+        _ => print_usage(&rt.stderr()),
     }
 }

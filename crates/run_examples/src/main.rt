@@ -12,35 +12,35 @@ use example_files::{
 };
 use project::answers::{Filling, Writing};
 use replay::{Replaying, replay};
-use std::io;
 use table::table;
 
-fn print(rt: &impl Print, text: &str) -> io::Result<()> {
-    rt.print(text)
+// Prints the text. A failed write is passed over: what the program prints is compared as a whole.
+fn print(rt: &impl Print, text: &str) {
+    let _ = rt.print(text);
 }
 
 // A number after its name.
-fn print_named(rt: &impl Print, name: &str, x: u64) -> io::Result<()> {
-    print(rt, name)?;
-    rt.print(x)
+fn print_named(rt: &impl Print, name: &str, x: u64) {
+    print(rt, name);
+    let _ = rt.print(x);
 }
 
 // A number of two bytes after its name.
-fn print_short(rt: &impl Print, name: &str, x: u16) -> io::Result<()> {
-    print_named(rt, name, x as u64)
+fn print_short(rt: &impl Print, name: &str, x: u16) {
+    print_named(rt, name, x as u64);
 }
 
-fn print_refusal(rt: &impl Print, check: u8, task: u8) -> io::Result<()> {
-    print_named(rt, "refused ", check as u64)?;
-    print_named(rt, " task ", task as u64)
+fn print_refusal(rt: &impl Print, check: u8, task: u8) {
+    print_named(rt, "refused ", check as u64);
+    print_named(rt, " task ", task as u64);
 }
 
 // The file's name and the two tasks, the preempted one first.
-fn print_asked(rt: &impl Print, name: &str, i: usize, j: usize) -> io::Result<()> {
-    print(rt, name)?;
-    print_named(rt, ", ", i as u64)?;
-    print_named(rt, " by ", j as u64)?;
-    print(rt, ": ")
+fn print_asked(rt: &impl Print, name: &str, i: usize, j: usize) {
+    print(rt, name);
+    print_named(rt, ", ", i as u64);
+    print_named(rt, " by ", j as u64);
+    print(rt, ": ");
 }
 
 // The pair number of i preempted by j, if the table can be filled. What the lists hold afterwards is left open.
@@ -51,84 +51,82 @@ fn print_pair_number(
     j: usize,
     area: &mut [u16],
     numbers: &mut [u16],
-) -> io::Result<()>
+)
     requires { (i < 8) × (j < 8) × (length numbers.old ≡ 64) }
     ensures { length area.new ≡ length area.old }
 {
     match table(file, area, numbers) {
         Filling::Filled => {
-            print_short(rt, "pair number ", numbers[8 * i + j])?;
+            print_short(rt, "pair number ", numbers[8 * i + j]);
         }
         Filling::Refused { check, task } => {
-            print(rt, "Table ")?;
-            print_refusal(rt, check, task)?;
+            print(rt, "Table ");
+            print_refusal(rt, check, task);
         }
     }
-    Ok(())
 }
 
 // U, D and the lost hits of the sheet's run.
-fn print_costs(rt: &impl Print, file: &[u8], sheet: &[u16]) -> io::Result<()> {
+fn print_costs(rt: &impl Print, file: &[u8], sheet: &[u16]) {
     match replay(file, sheet) {
         Replaying::Counted {
             undisturbed,
             disturbed,
             lost,
         } => {
-            print_named(rt, ", U = ", undisturbed as u64)?;
-            print_named(rt, ", D = ", disturbed as u64)?;
-            print_named(rt, ", lost hits = ", lost as u64)?;
+            print_named(rt, ", U = ", undisturbed as u64);
+            print_named(rt, ", D = ", disturbed as u64);
+            print_named(rt, ", lost hits = ", lost as u64);
         }
         Replaying::Refused { check, task } => {
-            print(rt, ", Replay ")?;
-            print_refusal(rt, check, task)?;
+            print(rt, ", Replay ");
+            print_refusal(rt, check, task);
         }
     }
-    print(rt, "\n")
+    print(rt, "\n");
 }
 
 // The number at a place of the sheet, after its name, if the sheet has that place.
-fn print_place(rt: &impl Print, name: &str, sheet: &[u16], at: usize) -> io::Result<()> {
+fn print_place(rt: &impl Print, name: &str, sheet: &[u16], at: usize) {
     if at < sheet.len() {
-        print_short(rt, name, sheet[at])?;
+        print_short(rt, name, sheet[at]);
     }
-    Ok(())
 }
 
 // The number of preemptions, the references done at the first and the length of its path, after a path of so many blocks.
-fn print_preemption(rt: &impl Print, sheet: &[u16], blocks: u16) -> io::Result<()> {
+fn print_preemption(rt: &impl Print, sheet: &[u16], blocks: u16) {
     let count = 2 + blocks as usize;
-    print_place(rt, ", preemptions ", sheet, count)?;
-    print_place(rt, ", references done ", sheet, count + 2)?;
-    print_place(rt, ", preempting path length ", sheet, count + 4)
+    print_place(rt, ", preemptions ", sheet, count);
+    print_place(rt, ", references done ", sheet, count + 2);
+    print_place(rt, ", preempting path length ", sheet, count + 4);
 }
 
 // The lengths of the sheet's paths, and its number of preemptions.
-fn print_lengths(rt: &impl Print, sheet: &[u16]) -> io::Result<()> {
+fn print_lengths(rt: &impl Print, sheet: &[u16]) {
     if 1 < sheet.len() {
-        print_short(rt, "  path length ", sheet[1])?;
-        print_preemption(rt, sheet, sheet[1])?;
+        print_short(rt, "  path length ", sheet[1]);
+        print_preemption(rt, sheet, sheet[1]);
     }
-    print(rt, "\n")
+    print(rt, "\n");
 }
 
 // The length of the sheet, and all numbers of a short one.
-fn print_sheet(rt: &impl Print, sheet: &[u16]) -> io::Result<()> {
-    print_named(rt, "  sheet of ", sheet.len() as u64)?;
+fn print_sheet(rt: &impl Print, sheet: &[u16]) {
+    print_named(rt, "  sheet of ", sheet.len() as u64);
     if sheet.len() <= 32 {
-        print(rt, ":")?;
+        print(rt, ":");
         for at in 0..sheet.len() {
-            print_short(rt, " ", sheet[at])?;
+            print_short(rt, " ", sheet[at]);
         }
     }
-    print(rt, "\n")
+    print(rt, "\n");
 }
 
 // The refusal in place of a run.
-fn print_no_run(rt: &impl Print, check: u8, task: u8) -> io::Result<()> {
-    print(rt, ", ")?;
-    print_refusal(rt, check, task)?;
-    print(rt, "\n")
+fn print_no_run(rt: &impl Print, check: u8, task: u8) {
+    print(rt, ", ");
+    print_refusal(rt, check, task);
+    print(rt, "\n");
 }
 
 // The run that costs most in i preempted by j. What the lists hold afterwards is left open.
@@ -140,47 +138,46 @@ fn print_run(
     first: &mut [u16],
     second: &mut [u16],
     sheet: &mut [u16],
-) -> io::Result<()>
+)
     ensures { (length first.new ≡ length first.old) × (length second.new ≡ length second.old) }
 {
     match costliest_run(file, i, j, first, second, sheet) {
         Writing::Written { length } => {
             let written = &sheet[0..length];
-            print_costs(rt, file, written)?;
-            print_lengths(rt, written)?;
-            print_sheet(rt, written)?;
+            print_costs(rt, file, written);
+            print_lengths(rt, written);
+            print_sheet(rt, written);
         }
         Writing::Refused { check, task } => {
-            print_no_run(rt, check, task)?;
+            print_no_run(rt, check, task);
         }
     }
-    Ok(())
 }
 
 // The pair number of i preempted by j, and the run that costs most.
-fn show(rt: &impl Print, name: &str, file: &[u8], i: usize, j: usize) -> io::Result<()>
+fn show(rt: &impl Print, name: &str, file: &[u8], i: usize, j: usize)
     requires { (i < 8) × (j < 8) }
 {
     let mut first = [0u16; AREA_LENGTH];
     let mut second = [0u16; AREA_LENGTH];
     let mut numbers = [0u16; 64];
     let mut sheet = [0u16; 2311];
-    print_asked(rt, name, i, j)?;
-    print_pair_number(rt, file, i, j, &mut first, &mut numbers)?;
-    print_run(rt, file, i, j, &mut first, &mut second, &mut sheet)
+    print_asked(rt, name, i, j);
+    print_pair_number(rt, file, i, j, &mut first, &mut numbers);
+    print_run(rt, file, i, j, &mut first, &mut second, &mut sheet);
 }
 
 // How many of the numbers still are the 7 that they were filled with.
-fn print_kept(rt: &impl Print, numbers: &[u16]) -> io::Result<()> {
+fn print_kept(rt: &impl Print, numbers: &[u16]) {
     let mut kept: u64 = 0;
     for at in 0..numbers.len() {
         if numbers[at] == 7 {
             kept += 1;
         }
     }
-    print_named(rt, ": ", kept)?;
-    print_named(rt, " of ", numbers.len() as u64)?;
-    print(rt, " numbers kept\n")
+    print_named(rt, ": ", kept);
+    print_named(rt, " of ", numbers.len() as u64);
+    print(rt, " numbers kept\n");
 }
 
 // What the call answers with these areas and this sheet, filled with 7, and how many numbers of the sheet it keeps: all if it refuses, and else those
@@ -193,22 +190,21 @@ fn print_answer(
     first: &mut [u16],
     second: &mut [u16],
     sheet: &mut [u16],
-) -> io::Result<()>
+)
     ensures { (length first.new ≡ length first.old) × (length second.new ≡ length second.old) }
 {
     match costliest_run(file, i, j, first, second, sheet) {
         Writing::Written { length } => {
-            print_named(rt, "sheet of ", length as u64)?;
-            print(rt, "; after it")?;
-            print_kept(rt, &sheet[length..])?;
+            print_named(rt, "sheet of ", length as u64);
+            print(rt, "; after it");
+            print_kept(rt, &sheet[length..]);
         }
         Writing::Refused { check, task } => {
-            print_refusal(rt, check, task)?;
-            print(rt, "; sheet")?;
-            print_kept(rt, sheet)?;
+            print_refusal(rt, check, task);
+            print(rt, "; sheet");
+            print_kept(rt, sheet);
         }
     }
-    Ok(())
 }
 
 // What the call answers with areas and a sheet of so many numbers.
@@ -221,13 +217,13 @@ fn show_kept(
     first_length: usize,
     second_length: usize,
     sheet_length: usize,
-) -> io::Result<()>
+)
     requires { (first_length ≤ 24833) × (second_length ≤ 24833) × (sheet_length ≤ 2400) }
 {
     let mut first = [0u16; 24833];
     let mut second = [0u16; 24833];
     let mut sheet = [7u16; 2400];
-    print_asked(rt, name, i, j)?;
+    print_asked(rt, name, i, j);
     print_answer(
         rt,
         file,
@@ -236,74 +232,74 @@ fn show_kept(
         &mut first[0..first_length],
         &mut second[0..second_length],
         &mut sheet[0..sheet_length],
-    )
+    );
 }
 
 // What the call answers with areas of the right length and the shortest sheet that is long enough.
-fn show_refused(rt: &impl Print, name: &str, file: &[u8], i: usize, j: usize) -> io::Result<()> {
-    show_kept(rt, name, file, i, j, AREA_LENGTH, AREA_LENGTH, 2311)
+fn show_refused(rt: &impl Print, name: &str, file: &[u8], i: usize, j: usize) {
+    show_kept(rt, name, file, i, j, AREA_LENGTH, AREA_LENGTH, 2311);
 }
 
 // Runs in E, with its block masked too, and in the graph of figure 1.
-fn show_documents(rt: &impl Print) -> io::Result<()> {
-    show(rt, "E", &E, 0, 1)?;
-    show(rt, "E", &E, 1, 0)?;
-    show(rt, "E with byte 18 = 01", &with_byte(18, 0x01), 0, 1)?;
-    show(rt, "figure 1 and a block", &FIGURE_1_AND_BLOCK, 0, 1)?;
-    show(rt, "figure 1 and a fork", &FIGURE_1_AND_FORK, 0, 1)
+fn show_documents(rt: &impl Print) {
+    show(rt, "E", &E, 0, 1);
+    show(rt, "E", &E, 1, 0);
+    show(rt, "E with byte 18 = 01", &with_byte(18, 0x01), 0, 1);
+    show(rt, "figure 1 and a block", &FIGURE_1_AND_BLOCK, 0, 1);
+    show(rt, "figure 1 and a fork", &FIGURE_1_AND_FORK, 0, 1);
 }
 
 // A run that goes round a long loop many times, and one in a file that Table refuses.
-fn show_larger(rt: &impl Print) -> io::Result<()> {
-    show(rt, "a long loop with five arms", &FIVE_ARMS, 0, 1)?;
+fn show_larger(rt: &impl Print) {
+    show(rt, "a long loop with five arms", &FIVE_ARMS, 0, 1);
     show(
         rt,
         "six forks of tasks 2 and 3",
         &SIX_FORKS_OF_TASKS_2_AND_3,
         0,
         1,
-    )
+    );
 }
 
 // Runs of tasks that share a memory block: one that loses no hit, and one that loses a hit and has another in place of a miss.
-fn show_shared(rt: &impl Print) -> io::Result<()> {
-    show(rt, "E with byte 31 = 00", &with_byte(31, 0x00), 0, 1)?;
-    show(rt, "one of two memory blocks shared", &SHARED_BOTH, 0, 1)
+fn show_shared(rt: &impl Print) {
+    show(rt, "E with byte 31 = 00", &with_byte(31, 0x00), 0, 1);
+    show(rt, "one of two memory blocks shared", &SHARED_BOTH, 0, 1);
 }
 
 // A run that loses its hit between two references of one block.
-fn show_between(rt: &impl Print) -> io::Result<()> {
-    show(rt, "one memory block read twice", &TWICE, 0, 1)
+fn show_between(rt: &impl Print) {
+    show(rt, "one memory block read twice", &TWICE, 0, 1);
 }
 
 // Lists of other lengths.
-fn show_lengths(rt: &impl Print) -> io::Result<()> {
-    show_kept(rt, "E, first area of 24831", &E, 0, 1, 24831, 24832, 2311)?;
-    show_kept(rt, "E, second area of 24833", &E, 0, 1, 24832, 24833, 2311)?;
-    show_kept(rt, "E, sheet of 2310", &E, 0, 1, 24832, 24832, 2310)?;
-    show_kept(rt, "E, sheet of 2400", &E, 0, 1, 24832, 24832, 2400)?;
-    show_kept(rt, "E, sheet of 2310", &E, 0, 0, 24832, 24832, 2310)?;
-    show_kept(rt, "7 bytes, areas of 0", &E[0..7], 0, 1, 0, 0, 2311)
+fn show_lengths(rt: &impl Print) {
+    show_kept(rt, "E, first area of 24831", &E, 0, 1, 24831, 24832, 2311);
+    show_kept(rt, "E, second area of 24833", &E, 0, 1, 24832, 24833, 2311);
+    show_kept(rt, "E, sheet of 2310", &E, 0, 1, 24832, 24832, 2310);
+    show_kept(rt, "E, sheet of 2400", &E, 0, 1, 24832, 24832, 2400);
+    show_kept(rt, "E, sheet of 2310", &E, 0, 0, 24832, 24832, 2310);
+    show_kept(rt, "7 bytes, areas of 0", &E[0..7], 0, 1, 0, 0, 2311);
 }
 
 // Tasks that are equal or not below t, a file that is not accepted, and tasks with too many states.
-fn show_tasks(rt: &impl Print) -> io::Result<()> {
+fn show_tasks(rt: &impl Print) {
     let forks = "six forks of tasks 2 and 3";
-    show_refused(rt, "E", &E, 1, 1)?;
-    show_refused(rt, "E", &E, 2, 0)?;
-    show_refused(rt, "E", &E, 0, 2)?;
-    show_refused(rt, "two blocks, no successors", &APART, 0, 0)?;
-    show_refused(rt, forks, &SIX_FORKS_OF_TASKS_2_AND_3, 2, 3)?;
-    show_refused(rt, forks, &SIX_FORKS_OF_TASKS_2_AND_3, 3, 2)?;
-    show_refused(rt, forks, &SIX_FORKS_OF_TASKS_2_AND_3, 0, 3)?;
-    show_refused(rt, forks, &SIX_FORKS_OF_TASKS_2_AND_3, 3, 0)
+    show_refused(rt, "E", &E, 1, 1);
+    show_refused(rt, "E", &E, 2, 0);
+    show_refused(rt, "E", &E, 0, 2);
+    show_refused(rt, "two blocks, no successors", &APART, 0, 0);
+    show_refused(rt, forks, &SIX_FORKS_OF_TASKS_2_AND_3, 2, 3);
+    show_refused(rt, forks, &SIX_FORKS_OF_TASKS_2_AND_3, 3, 2);
+    show_refused(rt, forks, &SIX_FORKS_OF_TASKS_2_AND_3, 0, 3);
+    show_refused(rt, forks, &SIX_FORKS_OF_TASKS_2_AND_3, 3, 0);
 }
 
-fn main(rt: HostRuntime) -> io::Result<()> {
-    show_documents(&rt)?;
-    show_larger(&rt)?;
-    show_shared(&rt)?;
-    show_between(&rt)?;
-    show_lengths(&rt)?;
-    show_tasks(&rt)
+fn main(rt: HostRuntime) {
+    show_documents(&rt);
+    show_larger(&rt);
+    show_shared(&rt);
+    show_between(&rt);
+    show_lengths(&rt);
+    show_tasks(&rt);
 }
