@@ -23,6 +23,7 @@ use Rattle.model.proofs.Membership.{all_of_lem}
 use Rattle.model.proofs.Paths.{successor_below}
 use Rattle.body.specs.Layout.{BlockInBounds, InBounds}
 use Rattle.body.specs.Decode.{decoded, decode, task_of}
+use Rattle.body.specs.declared.BodyWalk.{BodyWalk}
 use Rattle.body.specs.Walk.{kept_of, blocks_of, starts_of}
 use Rattle.body.specs.Jumps.{set_of, jump_sets, unmasked_set}
 use Rattle.body.proofs.Decoded.{decoded-bounds}
@@ -137,3 +138,7 @@ walked_task s blocks starts k eb es =
       bounds = decoded-bounds s t q;
       parts = λ b l. walked_parts s t b q l (ap (λ x. get_or x b 0) es);
     }
+
+-- the task of a body that was walked
+pub its_task : (w : BodyWalk) → WalkedTask w.body.now w.blocks w.starts
+its_task w = walked_task _ _ _ w.walked.0 w.walked.1 w.walked.2

@@ -14,10 +14,10 @@ use Rattle.model.specs.Tasks.{Block, Task}
 use Rattle.model.proofs.Membership.{both_left, both_right}
 use Rattle.body.specs.Layout.{block_bytes}
 use Rattle.body.specs.Decode.{Decoded, broken, decoded, with_block, block_from, block_test, blocks_from, decode}
-use Rattle.body.specs.Walk.{starts_from, kept_of, blocks_of, starts_of}
+use Rattle.body.specs.Walk.{starts_from, kept_of, Walked}
 use Rattle.body.specs.Parts.{references_end}
 use Rattle.body.specs.BlockEnd.{kept_at, block_end}
-use Rattle.body.specs.declared.block.BlockEnd.TheVariants.{At, Broken}
+use Rattle.std.specs.Prelude.{Some, None}
 use Rattle.body.proofs.BlockParts.{length-numbers}
 use Rattle.body.proofs.Decoded.{parts-long, fits}
 
@@ -68,16 +68,16 @@ there : (B at : ℕ) (s : List ℕ) → Kept B at s → get_or s (at + 1) 0 + 2 
 there B at s k = (fits B (get_or s at 0) (get_or s (at + 1) 0) (get_or s (at + 2) 0) (drop (at + 3) s) k.test).there
 
 -- what judging a block answers
-ended : (k : Bool) (at e : ℕ) → cond k (At at) Broken ≡ At e → (k ≡ true) × (at ≡ e)
+ended : (k : Bool) (at e : ℕ) → cond k (Some at) None ≡ Some e → (k ≡ true) × (at ≡ e)
 ended true at e h = (refl, (cc))
 ended false at e h = let z : ◌≡◌ {A = ℕ} 0 1 = cc in absurd (omega arith)
 
-refused : (k : Bool) (at : ℕ) → cond k (At at) Broken ≡ Broken → k ≡ false
+refused : (k : Bool) (at : ℕ) → cond k (Some at) None ≡ None → k ≡ false
 refused true at h = let z : ◌≡◌ {A = ℕ} 0 1 = cc in absurd (omega arith)
 refused false at h = refl
 
 -- where a block ends, one was kept
-ends-kept : (B at : ℕ) (s : List ℕ) {e : ℕ} → block_end B at s ≡ At e → Kept B at s × (references_end at s ≡ e)
+ends-kept : (B at : ℕ) (s : List ℕ) {e : ℕ} → block_end B at s ≡ Some e → Kept B at s × (references_end at s ≡ e)
 unfolding block_end
 ends-kept B at s {e} h =
     let p = ended (kept_at B at s) (references_end at s) e h in
@@ -91,7 +91,7 @@ broken-by B left at s f = go (leb (at + 3) (length s)) refl
     go true q = rw (headed B left at s (leb-true (at + 3) (length s) q), rw q at f)
     go false q = cut B left (drop at s) (simp length-drop (omega (arith, leb-false (at + 3) (length s) q)))
 
-ends-broken : (B left at : ℕ) (s : List ℕ) → block_end B at s ≡ Broken → blocks_from B (suc left) (drop at s) ≡ broken
+ends-broken : (B left at : ℕ) (s : List ℕ) → block_end B at s ≡ None → blocks_from B (suc left) (drop at s) ≡ broken
 unfolding block_end
 ends-broken B left at s h = broken-by B left at s (refused (kept_at B at s) (references_end at s) h)
 
@@ -176,7 +176,7 @@ one_fewer : (B b : ℕ) → b < B → B - b ≡ suc (B - (b + 1))
 one_fewer B b h = omega arith
 
 -- one more block is passed, and its start filled in
-pub passed_turn : {s : List ℕ} {B b at e start : ℕ} {starts : List ℕ} → Passed s B b at starts → b < B → B ≤ 24 → block_end B at s ≡ At e
+pub passed_turn : {s : List ℕ} {B b at e start : ℕ} {starts : List ℕ} → Passed s B b at starts → b < B → B ≤ 24 → block_end B at s ≡ Some e
     → start ≡ at → Passed s B (b + 1) e (set starts b start)
 passed_turn {s} {B} {b} {at} {e} w l m h q =
     let k = ends-kept B at s h in
@@ -192,7 +192,7 @@ passed_turn {s} {B} {b} {at} {e} w l m h q =
     }
 
 -- the next block is refused
-pub passed-broken : {s : List ℕ} {B b at : ℕ} {starts : List ℕ} → Passed s B b at starts → b < B → block_end B at s ≡ Broken
+pub passed-broken : {s : List ℕ} {B b at : ℕ} {starts : List ℕ} → Passed s B b at starts → b < B → block_end B at s ≡ None
     → decode s ≡ broken
 passed-broken {s} {B} {b} {at} w l h = w.whole ∙ rw (one_fewer B b l, ends-broken B (B - (b + 1)) at s h)
 
@@ -214,16 +214,11 @@ passed-all {s} {B} {b} {at} w l h =
 
 -- ---- the answer
 
--- what the walk of the body s answers
-abbrev pub Answers : List ℕ → Bool → ℕ → List ℕ → Type 0
-Answers s kept blocks starts = (kept ≡ kept_of (decode s)) × (blocks ≡ blocks_of (decode s)) × (starts ≡ starts_of (decode s))
+pub not-kept : (s : List ℕ) → decode s ≡ broken → kept_of (decode s) ≡ false
+not-kept s h = ap kept_of h
 
-pub answers-broken : (s : List ℕ) → decode s ≡ broken → Answers s false 0 (replicate 24 0)
-answers-broken s h = rw h (refl, refl, refl)
-
-pub answers-kept : {s : List ℕ} {B b at all : ℕ} {starts : List ℕ} → Passed s B b at starts → B ≤ b → all ≡ b → length s ≤ at
-    → Answers s true all starts
-answers-kept w l e h = rw (passed-all w l h) (refl, e ∙ sym w.count, w.filled)
+pub all-walked : {s : List ℕ} {B b at all : ℕ} {starts : List ℕ} → Passed s B b at starts → B ≤ b → all ≡ b → length s ≤ at → Walked s all starts
+all-walked w l e h = rw (passed-all w l h) (refl, e ∙ sym w.count, w.filled)
 
 -- ---- the first two bytes
 

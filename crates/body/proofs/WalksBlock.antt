@@ -12,7 +12,7 @@ use borrow.Author.Tests.{le-leb, lt-leb, lt-ltb, le-ltb}
 use Rattle.cache.specs.References.{nothing, number_at, numbers}
 use Rattle.body.specs.Decode.{rises_below, all_real, block_test}
 use Rattle.body.specs.BlockEnd.{block_end}
-use Rattle.body.specs.declared.block.BlockEnd.TheVariants.{At, Broken}
+use Rattle.std.specs.Prelude.{Some, None}
 
 -- the first successor is the last one so far
 pub rises_start : (B : ℕ) (s : List ℕ) → (length s ≡ 0 → ⊥) → rises_below B (get_or s 0 0 ∷ drop 1 s) ≡ rises_below B s
@@ -99,14 +99,14 @@ module _ (B f sc rc : ℕ) (rest : List ℕ) where
       rw (rises, real, n, le-leb f 1 clean, le-leb sc 4 few, le-leb rc 16 short, le-leb (sc + 2 * rc) (length rest) there)
 
 -- a block whose first three bytes are not there
-pub end_short : (B at : ℕ) (s : List ℕ) → length s < at + 3 → Broken ≡ block_end B at s
+pub end_short : (B at : ℕ) (s : List ℕ) → length s < at + 3 → None ≡ block_end B at s
 unfolding block_end
 end_short B at s h = rw (lt-leb (at + 3) (length s) h)
 
 -- a block whose first three bytes are there: its test, on the bytes behind them, decides
 pub end_is : (B at : ℕ) (s : List ℕ) {sc rc : ℕ} {kept : Bool} → at + 3 ≤ length s → sc ≡ get_or s (at + 1) 0 → rc ≡ get_or s (at + 2) 0
     → kept ≡ block_test B (get_or s at 0) sc rc (take (length s - (at + 3)) (drop (at + 3) s))
-    → cond kept (At (at + 3 + sc + 2 * rc)) Broken ≡ block_end B at s
+    → cond kept (Some (at + 3 + sc + 2 * rc)) None ≡ block_end B at s
 unfolding block_end
 end_is B at s h p q k =
     let all : length (drop (at + 3) s) ≤ length s - (at + 3) = omega (arith, length-drop (at + 3) s) in

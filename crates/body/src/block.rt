@@ -17,29 +17,19 @@ const SUCCESSORS: usize = 4;
 // The most references of a block.
 const REFERENCES: usize = 16;
 
-// Where a block ends, or that it breaks the layout.
-#[derive(Clone, Copy)]
-pub enum BlockEnd {
-    At(usize),
-    Broken,
-}
-
 // Whether each successor is below the next one, and the last below the number of blocks.
 fn rises_below(successors: &[u8], blocks: u8) -> bool
     ensures { result ≡ rises_below blocks successors.now }
 {
-    if successors.len() == 0 {
+    let [first, others @ ..] = successors else {
         return true;
-    }
-    let mut last = successors[0];
-    let mut i: usize = 1;
-    while i < successors.len() {
-        let next = successors[i];
+    };
+    let mut last = *first;
+    for &next in others {
         if next <= last {
             return false;
         }
         last = next;
-        i += 1;
     }
     last < blocks
 }
@@ -48,12 +38,10 @@ fn rises_below(successors: &[u8], blocks: u8) -> bool
 fn all_real(references: &[u8]) -> bool
     ensures { result ≡ all_real (numbers references.now) }
 {
-    let mut i: usize = 0;
-    while 2 <= references.len() - i {
-        if number_at(references, i) == Row::NOTHING {
+    for i in 0..references.len() / 2 {
+        if number_at(references, 2 * i) == Row::NOTHING {
             return false;
         }
-        i += 2;
     }
     true
 }
@@ -81,19 +69,19 @@ fn block_kept(flags: u8, successors: usize, references: usize, rest: &[u8], bloc
     false
 }
 
-// Where the block that begins at `at` ends, in a body of this many blocks.
-pub fn block_end(body: &[u8], at: usize, blocks: u8) -> BlockEnd
+// Where the block that begins at `at` ends, in a body of this many blocks; none where it breaks the layout.
+pub fn block_end(body: &[u8], at: usize, blocks: u8) -> Option<usize>
     requires { at ≤ length body.now }
     ensures { result ≡ block_end blocks at body.now }
 {
     let from = at + 3;
     if body.len() < from {
-        return BlockEnd::Broken;
+        return None;
     }
     let successors = byte_count(body[at + 1]);
     let references = byte_count(body[at + 2]);
     if block_kept(body[at], successors, references, &body[from..], blocks) {
-        return BlockEnd::At(from + successors + 2 * references);
+        return Some(from + successors + 2 * references);
     }
-    BlockEnd::Broken
+    None
 }

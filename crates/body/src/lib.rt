@@ -7,67 +7,68 @@ pub mod masks;
 pub mod paths;
 pub mod predecessors;
 
-ghost use Rattle.std.specs.Prelude.{◌≡◌, true, ◌≤◌, length};
+ghost use Rattle.std.specs.Prelude.{◌≡◌, true, false, ◌≤◌, length, MatchOption};
 ghost use Rattle.body.specs.Decode.{decode, task_of};
-ghost use Rattle.body.specs.Walk.{kept_of, blocks_of, starts_of};
+ghost use Rattle.body.specs.Walk.{kept_of, Walked};
 ghost use Rattle.body.specs.Parts.{successors_end, references_end, successors_at, references_at};
 
-use block::BlockEnd;
 use cache::numbers::byte_count;
 
 // The most blocks of a task.
 const BLOCKS: u8 = 24;
 
-// Where the blocks of a body stand, if it keeps its layout.
+// A body that keeps its layout, and where its blocks stand.
 #[derive(Clone, Copy)]
-pub struct BodyWalk {
-    pub kept: bool,
+pub struct BodyWalk<'a> {
+    pub body: &'a [u8],
     pub blocks: usize,
     pub starts: [usize; 24],
+    ghost walked: { Walked body.now blocks starts },
 }
 
-// The walk of a body that breaks its layout.
-const BROKEN: BodyWalk = BodyWalk {
-    kept: false,
-    blocks: 0,
-    starts: [0; 24],
-};
-
-// Check 8 of one body, and where its blocks begin: the one place where the bytes of a body are decoded.
-pub fn walk(body: &[u8]) -> BodyWalk
-    ensures { (result.kept ≡ kept_of (decode body.now)) × (result.blocks ≡ blocks_of (decode body.now)) × (result.starts ≡ starts_of (decode body.now)) }
+// Check 8 of one body, and where its blocks begin, if it keeps its layout: the one place where the bytes of a body are decoded.
+pub fn walk(body: &[u8]) -> Option<BodyWalk<'_>>
+    ensures { MatchOption result (kept_of (decode body.now) ≡ false) (λ w. w.body.now ≡ body.now) }
 {
     if body.len() < 2 {
-        return BROKEN;
+        return None;
     }
     let blocks = body[0];
     if blocks < 1 {
-        return BROKEN;
+        return None;
     }
     if BLOCKS < blocks {
-        return BROKEN;
+        return None;
     }
     if body[1] != 0 {
-        return BROKEN;
+        return None;
     }
     let mut starts = [0usize; 24];
     let mut at: usize = 2;
     let all = byte_count(blocks);
     for b in 0..all {
-        let BlockEnd::At(end) = block::block_end(body, at, blocks) else {
-            return BROKEN;
-        };
         starts[b] = at;
-        at = end;
+        at = block::block_end(body, at, blocks)?;
     }
     if at < body.len() {
-        return BROKEN;
+        return None;
     }
-    BodyWalk {
-        kept: true,
+    Some(BodyWalk {
+        body,
         blocks: all,
         starts,
-    }
+    })
+}
+
+// The walk of a body that is known to keep its layout.
+pub fn kept_walk(body: &[u8]) -> BodyWalk<'_>
+    requires { kept_of (decode body.now) ≡ true }
+    ensures { result.body.now ≡ body.now }
+{
+    let Some(walked) = walk(body) else {
+        unreachable!()
+    };
+    walked
 }
 
 // How many blocks a body has that keeps its layout.

@@ -4,18 +4,17 @@ ghost use Rattle.body.specs.Decode.{decode, task_of};
 ghost use Rattle.body.specs.Walk.{kept_of};
 ghost use Rattle.body.specs.Jumps.{unmasked_set};
 
-use crate::walk;
+use crate::kept_walk;
 
 // The set of the unmasked blocks of a body.
 pub fn unmasked_blocks(body: &[u8]) -> u32
     requires { kept_of (decode body.now) ≡ true }
     ensures { result ≡ unmasked_set (task_of (decode body.now)) }
 {
-    let walked = walk(body);
-    let starts = walked.starts;
+    let walked = kept_walk(body);
     let mut set: u32 = 0;
     for b in 0..walked.blocks {
-        if body[starts[b]] == 0 {
+        if body[walked.starts[b]] == 0 {
             set |= 1 << b;
         }
     }

@@ -3,50 +3,50 @@
 use mathlib.Core.Path.{refl, sym, ◌∙◌}
 use native.Mathlib.Omega.{arith}
 use lib.ListN.{length-set}
-use Rattle.body.proofs.Walks.{passed_start, passed_turn, passed-broken, passed_trailing, answers-broken, answers-kept, decode-short, decode-none, decode-many, decode_odd}
+use Rattle.body.proofs.Walks.{passed_start, passed_turn, passed-broken, passed_trailing, not-kept, all-walked, decode-short, decode-none, decode-many, decode_odd}
 use Rattle.body.proofs.walk.Goals as goal
 
 pub returns-then-body-lt2 : goal.returns-then-body-lt2
 returns-then-body-lt2 c =
     let s = c.args.body.now in
-    answers-broken s (decode-short s (omega arith))
+    not-kept s (decode-short s (omega arith))
 
 pub returns-then-blocks-lt1 : goal.returns-then-blocks-lt1
 returns-then-blocks-lt1 c =
     let s = c.args.body.now in
-    answers-broken s (decode-none s (omega arith) (omega arith))
+    not-kept s (decode-none s (omega arith) (omega arith))
 
 pub returns-then-blocks-gt-BLOCKS : goal.returns-then-blocks-gt-BLOCKS
 returns-then-blocks-gt-BLOCKS c =
     let s = c.args.body.now in
-    answers-broken s (decode-many s (omega arith) (omega arith) (omega arith))
+    not-kept s (decode-many s (omega arith) (omega arith) (omega arith))
 
 pub returns-then-body-ne0 : goal.returns-then-body-ne0
 returns-then-body-ne0 c =
     let s = c.args.body.now in
-    answers-broken s (decode_odd s (omega arith) (omega arith) (omega arith) (λ e. omega arith))
+    not-kept s (decode_odd s (omega arith) (omega arith) (omega arith) (λ e. omega arith))
 
 pub loop-b-init : goal.loop-b-init
 loop-b-init c =
     let s = c.args.body.now in
     (omega arith, refl, passed_start s (omega arith) (omega arith) (omega arith) (omega arith) (omega arith))
 
-pub returns-in_default : goal.returns-in_default
-returns-in_default c =
+pub returns-in_err-at : goal.returns-in_err-at
+returns-in_err-at c =
     let at = c.loop-b in
     let s = c.args.body.now in
-    answers-broken s (passed-broken at.invariant.2 (omega arith) (sym c.block_end.ensures ∙ c.in_default.is))
+    rw c.from_residual.ensures (not-kept s (passed-broken at.invariant.2 (omega arith) (sym c.block_end.ensures ∙ c.in_err-at.was)))
 
 pub loop-b-preserved : goal.loop-b-preserved
 loop-b-preserved c =
     let at = c.loop-b in
-    let end = sym c.block_end.ensures ∙ c.in-At.is in
+    let end = sym c.block_end.ensures ∙ c.in_ok-at.was in
     (omega arith, simp length-set at.invariant.1, passed_turn at.invariant.2 (omega arith) (omega arith) end (omega arith))
 
 pub returns-then-at-body : goal.returns-then-at-body
 returns-then-at-body c =
     let s = c.args.body.now in
-    answers-broken s (passed_trailing c.loop-b.invariant.2 (omega arith) (omega arith))
+    not-kept s (passed_trailing c.loop-b.invariant.2 (omega arith) (omega arith))
 
-pub returns : goal.returns
-returns c = answers-kept c.loop-b.invariant.2 (omega arith) (omega arith) (omega arith)
+pub invariant_of-result : goal.invariant_of-result
+invariant_of-result c = record { walked = all-walked c.loop-b.invariant.2 (omega arith) (omega arith) (omega arith) }

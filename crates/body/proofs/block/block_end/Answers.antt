@@ -4,7 +4,7 @@ use mathlib.Core.Path.{◌≡◌}
 use Prim.Native.Nat.{◌+◌, ◌*◌}
 use native.Mathlib.Omega.{arith}
 use Rattle.body.specs.BlockEnd.{block_end}
-use Rattle.body.specs.declared.block.BlockEnd.TheVariants.{At, Broken}
+use Rattle.std.specs.Prelude.{Some, None}
 use Rattle.body.proofs.WalksBlock.{end_short, end_is}
 use Rattle.body.proofs.block.block_end.Goals as goal
 use Rattle.body.proofs.block.block_end.Goals.{After-block_kept}
@@ -18,7 +18,7 @@ returns-then-body-from c =
 told : (c : After-block_kept)
     → let args = c.args in
     let end = args.at + 3 + c.byte_count-successors.result + 2 * c.byte_count-references.result in
-    cond c.block_kept.result (At end) Broken ≡ block_end args.blocks args.at args.body.now
+    cond c.block_kept.result (Some end) None ≡ block_end args.blocks args.at args.body.now
 told c =
     let args = c.args in
     let successors = c.byte_count-successors.ensures.0 in

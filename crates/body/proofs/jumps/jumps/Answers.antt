@@ -2,22 +2,22 @@
 use mathlib.Core.Path.{refl, ◌∙◌}
 use native.Mathlib.Omega.{arith}
 use lib.ListN.{length-set}
-use Rattle.body.proofs.JumpLaws.{jump_turn, jump_end, WalkedTask, walked_task, successors-below}
+use Rattle.body.proofs.JumpLaws.{jump_turn, jump_end, WalkedTask, its_task, successors-below}
 use Rattle.body.proofs.jumps.jumps.Goals as goal
 use Rattle.body.proofs.jumps.jumps.Goals.{Start}
 
 -- the task of the body
-facts : (c : Start) → WalkedTask c.args.body.now c.args.walk.blocks c.args.walk.starts
-facts c = walked_task _ _ _ c.requires.0 c.requires.1 c.requires.2
+facts : (c : Start) → let w = c.args.walk.now in WalkedTask w.body.now w.blocks w.starts
+facts c = its_task c.args.walk.now
 
 pub loop-b-init : goal.loop-b-init
 loop-b-init c = (omega arith, refl, refl)
 
-pub offset_bounds-starts-b : goal.offset_bounds-starts-b
-offset_bounds-starts-b c = let f = facts (goal.at.offset_bounds-starts-b c).Start in omega (arith, f.long, f.bounds.few)
+pub offset_bounds-walk-b : goal.offset_bounds-walk-b
+offset_bounds-walk-b c = let f = facts (goal.at.offset_bounds-walk-b c).Start in omega (arith, f.long, f.bounds.few)
 
-pub bounds-starts-b : goal.bounds-starts-b
-bounds-starts-b c = let f = facts (goal.at.bounds-starts-b c).Start in omega (arith, f.long, f.bounds.few)
+pub bounds-walk-b : goal.bounds-walk-b
+bounds-walk-b c = let f = facts (goal.at.bounds-walk-b c).Start in omega (arith, f.long, f.bounds.few)
 
 pub successors-requires : goal.successors-requires
 successors-requires c =

@@ -3,18 +3,18 @@ use mathlib.Core.Path.{sym, ap, ◌∙◌}
 use native.Mathlib.Omega.{arith}
 use Rattle.body.specs.Decode.{decode, task_of}
 use Rattle.body.specs.Jumps.{jump_sets}
-use Rattle.body.proofs.JumpLaws.{WalkedTask, walked_task, jumps-below}
+use Rattle.body.proofs.JumpLaws.{WalkedTask, its_task, jumps-below}
 use Rattle.body.proofs.jumps.on_paths.Goals as goal
 use Rattle.body.proofs.jumps.on_paths.Goals.{Start}
 
-facts : (c : Start) → WalkedTask c.args.body.now c.args.walk.blocks c.args.walk.starts
-facts c = walked_task _ _ _ c.requires.0 c.requires.1 c.requires.2
+facts : (c : Start) → let w = c.args.walk.now in WalkedTask w.body.now w.blocks w.starts
+facts c = its_task c.args.walk.now
 
 pub all_on_paths-requires : goal.all_on_paths-requires
 all_on_paths-requires c =
     let start = c in
     let f = facts (goal.at.all_on_paths-requires c).Start in
-    (omega (arith, f.long, f.bounds.some), omega (arith, f.long, f.bounds.few), rw c.jumps.ensures (jumps-below (task_of (decode start.args.body.now))))
+    (omega (arith, f.long, f.bounds.some), omega (arith, f.long, f.bounds.few), rw c.jumps.ensures (jumps-below (task_of (decode start.args.walk.now.body.now))))
 
 pub returns : goal.returns
 returns c =
