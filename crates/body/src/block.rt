@@ -4,7 +4,6 @@ ghost use Rattle.cache.specs.References.{numbers};
 ghost use Rattle.body.specs.Decode.{rises_below, all_real, block_test};
 ghost use Rattle.body.specs.BlockEnd.{block_end};
 
-use cache::numbers::byte_count;
 use cache::references::number_at;
 use cache::row::Row;
 
@@ -38,6 +37,7 @@ fn rises_below(successors: &[u8], blocks: u8) -> bool
 fn all_real(references: &[u8]) -> bool
     ensures { result ≡ all_real (numbers references.now) }
 {
+    // By number: each reference is two bytes.
     for i in 0..references.len() / 2 {
         if number_at(references, 2 * i) == Row::NOTHING {
             return false;
@@ -78,8 +78,8 @@ pub fn block_end(body: &[u8], at: usize, blocks: u8) -> Option<usize>
     if body.len() < from {
         return None;
     }
-    let successors = byte_count(body[at + 1]);
-    let references = byte_count(body[at + 2]);
+    let successors = usize::from(body[at + 1]);
+    let references = usize::from(body[at + 2]);
     if block_kept(body[at], successors, references, &body[from..], blocks) {
         return Some(from + successors + 2 * references);
     }

@@ -12,6 +12,7 @@ pub fn jumps(walk: &BodyWalk<'_>) -> [u32; 24]
     ensures { result ≡ jump_sets (task_of (decode walk.now.body.now)) }
 {
     let mut sets = [0u32; 24];
+    // By number: the starts are read and the sets are written at the same block.
     for b in 0..walk.blocks {
         sets[b] = set_of(successors(walk.body, walk.starts[b]));
     }

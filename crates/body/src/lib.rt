@@ -12,8 +12,6 @@ ghost use Rattle.body.specs.Decode.{decode, task_of};
 ghost use Rattle.body.specs.Walk.{kept_of, Walked};
 ghost use Rattle.body.specs.Parts.{successors_end, references_end, successors_at, references_at};
 
-use cache::numbers::byte_count;
-
 // The most blocks of a task.
 const BLOCKS: u8 = 24;
 
@@ -45,7 +43,8 @@ pub fn walk(body: &[u8]) -> Option<BodyWalk<'_>>
     }
     let mut starts = [0usize; 24];
     let mut at: usize = 2;
-    let all = byte_count(blocks);
+    let all = usize::from(blocks);
+    // By number: the loop ends with the last block, and not with the bytes.
     for b in 0..all {
         starts[b] = at;
         at = block::block_end(body, at, blocks)?;
@@ -76,7 +75,7 @@ pub fn block_count(body: &[u8]) -> usize
     requires { kept_of (decode body.now) ≡ true }
     ensures { (result ≡ length (task_of (decode body.now))) × (1 ≤ result) × (result ≤ 24) }
 {
-    byte_count(body[0])
+    usize::from(body[0])
 }
 
 // The successors of the block that begins at `at`, one byte each, as a part of the body; where in the body it stands is left open.
@@ -85,7 +84,7 @@ pub fn successors(body: &[u8], at: usize) -> &[u8]
     ensures { result.now ≡ successors_at at body.now }
 {
     let from = at + 3;
-    let to = from + byte_count(body[at + 1]);
+    let to = from + usize::from(body[at + 1]);
     &body[from..to]
 }
 
@@ -94,7 +93,7 @@ pub fn references(body: &[u8], at: usize) -> &[u8]
     requires { references_end at body.now ≤ length body.now }
     ensures { result.now ≡ references_at at body.now }
 {
-    let from = at + 3 + byte_count(body[at + 1]);
-    let to = from + 2 * byte_count(body[at + 2]);
+    let from = at + 3 + usize::from(body[at + 1]);
+    let to = from + 2 * usize::from(body[at + 2]);
     &body[from..to]
 }

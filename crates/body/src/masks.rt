@@ -13,6 +13,7 @@ pub fn unmasked_blocks(body: &[u8]) -> u32
 {
     let walked = kept_walk(body);
     let mut set: u32 = 0;
+    // By number: the number is the bit that is set.
     for b in 0..walked.blocks {
         if body[walked.starts[b]] == 0 {
             set |= 1 << b;

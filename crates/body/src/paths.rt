@@ -7,7 +7,6 @@ ghost use Rattle.body.specs.Layout.{InBounds};
 ghost use Rattle.body.specs.Jumps.{set_of, jump_sets, LedTo, Exactly, has_below};
 
 use crate::predecessors::predecessors;
-use cache::numbers::byte_word;
 
 // The set of the blocks in a list.
 pub fn set_of(blocks: &[u8]) -> u32
@@ -15,8 +14,8 @@ pub fn set_of(blocks: &[u8]) -> u32
     ensures { result ≡ set_of blocks.now }
 {
     let mut set: u32 = 0;
-    for i in 0..blocks.len() {
-        set |= 1 << byte_word(blocks[i]);
+    for &b in blocks {
+        set |= 1 << u32::from(b);
     }
     set
 }
@@ -26,6 +25,7 @@ fn has_all(set: u32, count: usize) -> bool
     requires { count ≤ 24 }
     ensures { result ≡ has_below set count }
 {
+    // By number: the number is the bit that is asked.
     for b in 0..count {
         if set & (1 << b) == 0 {
             return false;

@@ -8,6 +8,7 @@ fn leading_to(sets: &[u32], blocks: usize, s: usize) -> u32
     ensures { result ≡ leading_to sets.now blocks s }
 {
     let mut set: u32 = 0;
+    // By number: the number is the bit that is set.
     for b in 0..blocks {
         if sets[b] & (1 << s) != 0 {
             set |= 1 << b;
@@ -22,6 +23,7 @@ pub fn predecessors(sets: [u32; 24], blocks: usize) -> [u32; 24]
     ensures { result ≡ turned sets blocks }
 {
     let mut found = [0u32; 24];
+    // By number: the number is the block that is asked for.
     for s in 0..blocks {
         found[s] = leading_to(&sets, blocks, s);
     }

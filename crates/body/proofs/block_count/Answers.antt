@@ -33,5 +33,5 @@ pub returns : goal.returns
 returns c =
     let start = c in
     let n = counted start.args.body.now start.requires in
-    let e = c.byte_count.ensures.0 ∙ n.count in
+    let e = c.from.ensures ∙ n.count in
     (e, omega (arith, e, n.some), omega (arith, e, n.few))

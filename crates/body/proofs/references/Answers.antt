@@ -7,5 +7,5 @@ use Rattle.body.proofs.references.Goals as goal
 pub returns : goal.returns
 returns c =
     let args = c.args in
-    let start = ap (λ (n : ℕ). args.at + 3 + n) c.byte_count.ensures.0 in
-    part_is args.body.now start (ap (λ (n : ℕ). 2 * n) c.byte_count-2.ensures.0)
+    let start = ap (λ (n : ℕ). args.at + 3 + n) c.from.ensures in
+    part_is args.body.now start (ap (λ (n : ℕ). 2 * n) c.from-2.ensures)

@@ -4,4 +4,4 @@ use Rattle.body.proofs.WalksParts.{part_is}
 use Rattle.body.proofs.successors.Goals as goal
 
 pub returns : goal.returns
-returns c = part_is c.args.body.now refl c.byte_count.ensures.0
+returns c = part_is c.args.body.now refl c.from.ensures

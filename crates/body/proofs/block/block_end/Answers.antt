@@ -17,12 +17,12 @@ returns-then-body-from c =
 -- what the test of the block tells of its end
 told : (c : After-block_kept)
     → let args = c.args in
-    let end = args.at + 3 + c.byte_count-successors.result + 2 * c.byte_count-references.result in
+    let end = args.at + 3 + c.from-successors.result + 2 * c.from-references.result in
     cond c.block_kept.result (Some end) None ≡ block_end args.blocks args.at args.body.now
 told c =
     let args = c.args in
-    let successors = c.byte_count-successors.ensures.0 in
-    let references = c.byte_count-references.ensures.0 in
+    let successors = c.from-successors.ensures in
+    let references = c.from-references.ensures in
     end_is args.blocks args.at args.body.now (omega arith) successors references c.block_kept.ensures
 
 pub returns-then-block_kept : goal.returns-then-block_kept

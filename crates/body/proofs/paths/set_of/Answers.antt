@@ -6,27 +6,21 @@ use Rattle.body.specs.Jumps.{set_of}
 use Rattle.body.proofs.BlockSets.{set-none, set_turn, below_at}
 use Rattle.body.proofs.paths.set_of.Goals as goal
 
-pub loop-i-init : goal.loop-i-init
-loop-i-init c = (omega arith, sym set-none)
+pub loop-b-init : goal.loop-b-init
+loop-b-init c = sym set-none
 
 pub overflow_shl-set : goal.overflow_shl-set
-overflow_shl-set c =
-    let at = c.loop-i in
-    let start = c in
-    omega (arith, c.byte_word.ensures.0, below_at start.args.blocks.now at.i 24 start.requires (omega arith))
+overflow_shl-set c = omega (arith, c.from.ensures, below_at c.args.blocks.now c.loop-b.b-index 24 c.requires (omega arith))
 
-pub loop-i-preserved : goal.loop-i-preserved
-loop-i-preserved c =
-    let at = c.loop-i in
-    let start = c in
-    let l = start.args.blocks.now in
-    let small = below_at l at.i 24 start.requires (omega arith) in (
-      omega arith,
-      set_turn l at.i (omega arith) (sym c.byte_word.ensures.0) (omega (arith, c.byte_word.ensures.0)) at.invariant.1 refl,
-    )
+pub loop-b-preserved : goal.loop-b-preserved
+loop-b-preserved c =
+    let at = c.loop-b in
+    let l = c.args.blocks.now in
+    let small = below_at l at.b-index 24 c.requires (omega arith) in
+    set_turn l at.b-index (omega arith) (sym c.from.ensures) (omega (arith, c.from.ensures)) at.invariant refl
 
 pub returns : goal.returns
 returns c =
-    let at = c.loop-i in
+    let at = c.loop-b in
     let l = c.args.blocks.now in
-    at.invariant.1 ∙ ap set_of (take_all at.i l (omega arith))
+    at.invariant ∙ ap set_of (take_all at.b-index l (omega arith))
