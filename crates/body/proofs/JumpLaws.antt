@@ -1,6 +1,6 @@
 -- The sets of successors, block by block: a turn of the loop that gathers them, and that each is below 2 ^ 24.
 -- The idea: the sets of the blocks so far, and zeros.
-use mathlib.Core.Path.{◌≡◌, refl, sym, ap, ap₂, ◌∙◌}
+use mathlib.Core.Path.{◌≡◌, refl, sym, ap, ap₂, ◌∙◌, subst}
 use mathlib.Core.Bool.{Bool, true, false, false≢true}
 use mathlib.Core.List.{List, [], ◌∷◌, ◌++◌, map}
 use Prim.Native.Nat.{ℕ, zero, suc, ◌+◌, ◌-◌, ◌≤◌, ◌<◌}
@@ -142,3 +142,7 @@ walked_task s blocks starts k eb es =
 -- the task of a body that was walked
 pub its_task : (w : BodyWalk) → WalkedTask w.body.now w.blocks w.starts
 its_task w = walked_task _ _ _ w.walked.0 w.walked.1 w.walked.2
+
+-- the same of the body that a walk is of
+pub kept_task : {s : List ℕ} (w : BodyWalk) → w.body.now ≡ s → WalkedTask s w.blocks w.starts
+kept_task w e = subst (λ x. WalkedTask x w.blocks w.starts) e (its_task w)

@@ -13,17 +13,18 @@ use Rattle.cache.specs.Sets.{in_set}
 use Rattle.cache.proofs.Masks.{one_at}
 use Rattle.model.proofs.Membership.{both_left, both_right}
 use Rattle.sheet.specs.Parsed.{path_test}
-use Rattle.nested_sheet.specs.declared.rules.End.{End}
-use Rattle.nested_sheet.specs.declared.rules.End.TheVariants.{At, Fault}
-use Rattle.nested_sheet.specs.Reading.{head_end, onwards, run_by, point_test, runs_by, list_end, run_end, EndsIn}
+use Rattle.std.specs.Prelude.{Result, Ok, Err}
+use Rattle.nested_sheet.specs.declared.rules.SheetFault.{SheetFault}
+use Rattle.nested_sheet.specs.declared.rules.SheetFault.TheVariants.{Rules, Nesting}
+use Rattle.nested_sheet.specs.Reading.{End, head_end, onwards, run_by, point_test, runs_by, list_end, run_end, EndsIn}
 
 abbrev pub place : End → ℕ
-place (At next) = next
-place (Fault c) = 0
+place (Ok next) = next
+place (Err c) = 0
 
 abbrev pub is_at : End → Bool
-is_at (At next) = true
-is_at (Fault c) = false
+is_at (Ok next) = true
+is_at (Err c) = false
 
 -- ---- the head
 
@@ -36,7 +37,7 @@ pub record HeadKept (t around : ℕ) (s : List ℕ) (at next : ℕ) : Type 0 whe
   pub within : at + 3 + get_or s (at + 1) 0 ≤ length s
   pub ends : next ≡ at + 3 + get_or s (at + 1) 0
 
-pub head_says : (t around : ℕ) (s : List ℕ) (at next : ℕ) → head_end t around s at ≡ At next → HeadKept t around s at next
+pub head_says : (t around : ℕ) (s : List ℕ) (at next : ℕ) → head_end t around s at ≡ Ok next → HeadKept t around s at next
 head_says t around s at next e =
     go (ltb at (length s) && ltb (get_or s at 0) t) refl (in_set around (get_or s at 0)) refl
     (ltb (at + 1) (length s) && path_test long (drop (at + 2) s) && (ltb (at + 2 + long) (length s) && leb count 16)) refl e
@@ -49,7 +50,7 @@ head_says t around s at next e =
 
     go : (a : Bool) → ltb at (length s) && ltb (get_or s at 0) t ≡ a → (b : Bool) → in_set around (get_or s at 0) ≡ b
         → (c : Bool) → ltb (at + 1) (length s) && path_test long (drop (at + 2) s) && (ltb (at + 2 + long) (length s) && leb count 16) ≡ c
-        → cond a (cond b (Fault 20) (cond c (At (at + 3 + long)) (Fault 12))) (Fault 12) ≡ At next → HeadKept t around s at next
+        → cond a (cond b (Err Nesting) (cond c (Ok (at + 3 + long)) (Err Rules))) (Err Rules) ≡ Ok next → HeadKept t around s at next
     go false ea b eb c ec e = absurd (false≢true (ap is_at e))
     go true ea true eb c ec e = absurd (false≢true (ap is_at e))
     go true ea false eb false ec e = absurd (false≢true (ap is_at e))
@@ -72,17 +73,17 @@ head_ends : (t around : ℕ) (s : List ℕ) (at : ℕ) → EndsIn s at (head_end
 head_ends t around s at = go (head_end t around s at) refl
   where
     go : (r : End) → head_end t around s at ≡ r → EndsIn s at r
-    go (Fault c) e = tt
-    go (At next) e = let h = head_says t around s at next e in (omega (arith, h.ends), omega (arith, h.ends, h.within))
+    go (Err c) e = tt
+    go (Ok next) e = let h = head_says t around s at next e in (omega (arith, h.ends), omega (arith, h.ends, h.within))
 
 onwards-end : (s : List ℕ) (at mid : ℕ) (r : End) (go : ℕ → End) → at ≤ mid → EndsIn s mid r
     → ((next : ℕ) → next ≤ length s → EndsIn s next (go next)) → EndsIn s at (onwards r go)
-onwards-end s at mid (Fault c) go h e f = tt
-onwards-end s at mid (At next) go h e f = wider (go next) (f next e.1)
+onwards-end s at mid (Err c) go h e f = tt
+onwards-end s at mid (Ok next) go h e f = wider (go next) (f next e.1)
   where
     wider : (r : End) → EndsIn s next r → EndsIn s at r
-    wider (Fault c) w = tt
-    wider (At x) w = (omega (arith, e.0, w.0), w.1)
+    wider (Err c) w = tt
+    wider (Ok x) w = (omega (arith, e.0, w.0), w.1)
 
 run-by-end : (list : ℕ → ℕ → ℕ → ℕ → ℕ → End) (t around : ℕ) (s : List ℕ) (at : ℕ)
     → ((long left i d x : ℕ) → x ≤ length s → EndsIn s x (list long left i d x)) → EndsIn s at (run_by list t around s at)
@@ -96,7 +97,7 @@ runs-by-end one s f long zero i d at h = (omega arith, h)
 runs-by-end one s f long (suc left) i d at h = go (point_test s long i d at) (runs-by-end one s f long left (get_or s at 0) (get_or s (at + 1) 0))
   where
     go : (b : Bool) → ((next : ℕ) → next ≤ length s → EndsIn s next (runs_by one s long left (get_or s at 0) (get_or s (at + 1) 0) next))
-        → EndsIn s at (cond b (onwards (one (at + 2)) (λ next. runs_by one s long left (get_or s at 0) (get_or s (at + 1) 0) next)) (Fault 12))
+        → EndsIn s at (cond b (onwards (one (at + 2)) (λ next. runs_by one s long left (get_or s at 0) (get_or s (at + 1) 0) next)) (Err Rules))
     go false ih = tt
     go true ih = onwards-end s at (at + 2) (one (at + 2)) _ (omega arith) (f (at + 2)) ih
 
@@ -127,10 +128,10 @@ module _ (t deep around : ℕ) (s : List ℕ) (at : ℕ) {h : End} (eh : h ≡ h
       ≡ run_end t deep around s at
   by_head = rw eh
 
-  pub run_fault : {c : ℕ} → h ≡ Fault c → Ended s at (run_end t deep around s at) (Fault c)
+  pub run_fault : {c : ℕ} → h ≡ Err c → Ended s at (run_end t deep around s at) (Err c)
   run_fault q = ended s at (run_end t deep around s at) (run_ends t deep around s at) (rw q at by_head)
 
-  module _ {next : ℕ} (q : h ≡ At next) where
+  module _ {next : ℕ} (q : h ≡ Ok next) where
     pub run_head : HeadKept t around s at next
     run_head = head_says t around s at next (sym eh ∙ q)
 
@@ -149,13 +150,13 @@ module _ (t deep around : ℕ) (s : List ℕ) (at : ℕ) {h : End} (eh : h ≡ h
 
 -- ---- a list: none left, too deep, or its first run and the list of the others
 
-none_is : (t deep around : ℕ) (s : List ℕ) (long left i d at : ℕ) → left ≡ 0 → At at ≡ list_end t deep around s long left i d at
+none_is : (t deep around : ℕ) (s : List ℕ) (long left i d at : ℕ) → left ≡ 0 → Ok at ≡ list_end t deep around s long left i d at
 unfolding list_end
 none_is t zero around s long zero i d at e = refl
 none_is t (suc deep) around s long zero i d at e = refl
 none_is t deep around s long (suc left) i d at e = absurd (omega arith)
 
-deep_is : (t deep around : ℕ) (s : List ℕ) (long left i d at : ℕ) → (left ≡ 0 → ⊥) → deep ≡ 0 → Fault 20 ≡ list_end t deep around s long left i d at
+deep_is : (t deep around : ℕ) (s : List ℕ) (long left i d at : ℕ) → (left ≡ 0 → ⊥) → deep ≡ 0 → Err Nesting ≡ list_end t deep around s long left i d at
 unfolding list_end
 deep_is t deep around s long zero i d at n e = absurd (n refl)
 deep_is t zero around s long (suc left) i d at n e = refl
@@ -164,7 +165,7 @@ deep_is t (suc deep) around s long (suc left) i d at n e = absurd (omega arith)
 first-is : (t deep around : ℕ) (s : List ℕ) (long left i d at : ℕ) → (left ≡ 0 → ⊥) → (deep ≡ 0 → ⊥)
     → list_end t deep around s long left i d at
     ≡ cond (point_test s long i d at) (onwards (run_end t (deep - 1) around s (at + 2))
-    (λ next. list_end t deep around s long (left - 1) (get_or s at 0) (get_or s (at + 1) 0) next)) (Fault 12)
+    (λ next. list_end t deep around s long (left - 1) (get_or s at 0) (get_or s (at + 1) 0) next)) (Err Rules)
 unfolding list_end
 first-is t deep around s long zero i d at n m = absurd (n refl)
 first-is t zero around s long (suc left) i d at n m = absurd (m refl)
@@ -179,19 +180,19 @@ module _ (t deep around : ℕ) (s : List ℕ) (long left i d at : ℕ) (inside :
   answer : {r : End} → r ≡ list_end t deep around s long left i d at → Ended s at (list_end t deep around s long left i d at) r
   answer = ended s at (list_end t deep around s long left i d at) (list-ends t deep around s long left i d at inside)
 
-  pub list-none : left ≡ 0 → Ended s at (list_end t deep around s long left i d at) (At at)
+  pub list-none : left ≡ 0 → Ended s at (list_end t deep around s long left i d at) (Ok at)
   list-none e = answer (none_is t deep around s long left i d at e)
 
   module _ (some : left ≡ 0 → ⊥) where
-    pub list_deep : deep ≡ 0 → Ended s at (list_end t deep around s long left i d at) (Fault 20)
+    pub list_deep : deep ≡ 0 → Ended s at (list_end t deep around s long left i d at) (Err Nesting)
     list_deep e = answer (deep_is t deep around s long left i d at some e)
 
     module _ (room : deep ≡ 0 → ⊥) {b : Bool} (eb : b ≡ point_test s long i d at) where
-      by_point : cond b (onwards (run_end t (deep - 1) around s (at + 2)) (λ next. list_end t deep around s long (left - 1) (get_or s at 0) (get_or s (at + 1) 0) next)) (Fault 12)
+      by_point : cond b (onwards (run_end t (deep - 1) around s (at + 2)) (λ next. list_end t deep around s long (left - 1) (get_or s at 0) (get_or s (at + 1) 0) next)) (Err Rules)
           ≡ list_end t deep around s long left i d at
       by_point = rw eb (sym (first-is t deep around s long left i d at some room))
 
-      pub list_point : b ≡ false → Ended s at (list_end t deep around s long left i d at) (Fault 12)
+      pub list_point : b ≡ false → Ended s at (list_end t deep around s long left i d at) (Err Rules)
       list_point q = answer (rw q at by_point)
 
       pub point_there : b ≡ true → at + 2 ≤ length s
@@ -201,13 +202,13 @@ module _ (t deep around : ℕ) (s : List ℕ) (long left i d at : ℕ) (inside :
         by-run : onwards r (λ next. list_end t deep around s long (left - 1) (get_or s at 0) (get_or s (at + 1) 0) next) ≡ list_end t deep around s long left i d at
         by-run = rw er (rw q at by_point)
 
-        pub list_fault_lem : {c : ℕ} → r ≡ Fault c → Ended s at (list_end t deep around s long left i d at) (Fault c)
+        pub list_fault_lem : {c : ℕ} → r ≡ Err c → Ended s at (list_end t deep around s long left i d at) (Err c)
         list_fault_lem e = answer (rw e at by-run)
 
-        pub list-next : {next j k : ℕ} {x : End} → r ≡ At next → j ≡ get_or s at 0 → k ≡ get_or s (at + 1) 0
+        pub list-next : {next j k : ℕ} {x : End} → r ≡ Ok next → j ≡ get_or s at 0 → k ≡ get_or s (at + 1) 0
             → x ≡ list_end t deep around s long (left - 1) j k next → Ended s at (list_end t deep around s long left i d at) x
         list-next e ej ek ex = answer (ex ∙ rw (ej, ek) (rw e at by-run))
 
 -- what ends at `next` ends in the sheet
-pub ends_at : (s : List ℕ) (at : ℕ) {next : ℕ} {r : End} → EndsIn s at r → r ≡ At next → next ≤ length s
+pub ends_at : (s : List ℕ) (at : ℕ) {next : ℕ} {r : End} → EndsIn s at r → r ≡ Ok next → next ≤ length s
 ends_at s at w e = (rw e at w).1

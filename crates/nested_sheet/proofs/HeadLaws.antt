@@ -12,9 +12,10 @@ use Rattle.cache.specs.Sets.{in_set}
 use Rattle.cache.proofs.Members.{in_word, out_word}
 use Rattle.sheet.specs.Parsed.{path_test, not_before}
 use Rattle.sheet.proofs.RuleLaws.{path_in_part}
-use Rattle.nested_sheet.specs.declared.rules.End.{End}
-use Rattle.nested_sheet.specs.declared.rules.End.TheVariants.{At, Fault}
-use Rattle.nested_sheet.specs.Reading.{head_end, point_test, EndsIn}
+use Rattle.std.specs.Prelude.{Result, Ok, Err}
+use Rattle.nested_sheet.specs.declared.rules.SheetFault.{SheetFault}
+use Rattle.nested_sheet.specs.declared.rules.SheetFault.TheVariants.{Rules, Nesting}
+use Rattle.nested_sheet.specs.Reading.{End, head_end, point_test, EndsIn}
 
 -- ---- the head
 
@@ -23,11 +24,11 @@ module _ (t around : ℕ) (s : List ℕ) (at : ℕ) where
   abbrev Answer : End → Type 0
   Answer r = (r ≡ head_end t around s at) × EndsIn s at r
 
-  pub head_none : length s ≤ at → Answer (Fault 12)
+  pub head_none : length s ≤ at → Answer (Err Rules)
   head_none h = (rw (le-ltb at (length s) h), tt)
 
   module _ {p : ℕ} (there : at < length s) (ep : p ≡ get_or s at 0) where
-    pub head_absent : t ≤ p → Answer (Fault 12)
+    pub head_absent : t ≤ p → Answer (Err Rules)
     head_absent h =
         let h' : t ≤ get_or s at 0 = omega arith in
         (rw (lt-ltb at (length s) there, le-ltb (get_or s at 0) t h'), tt)
@@ -36,14 +37,14 @@ module _ (t around : ℕ) (s : List ℕ) (at : ℕ) where
       small : get_or s at 0 < t
       small = omega arith
 
-      pub head_around : (bit_and around (1 * 2 ^ p % 2 ^ 32) ≡ 0 → ⊥) → Answer (Fault 20)
+      pub head_around : (bit_and around (1 * 2 ^ p % 2 ^ 32) ≡ 0 → ⊥) → Answer (Err Nesting)
       head_around q = (rw (lt-ltb at (length s) there, lt-ltb (get_or s at 0) t small, rw ep at (in_word 32 around p (omega arith) q)), tt)
 
       module _ (q : bit_and around (1 * 2 ^ p % 2 ^ 32) ≡ 0) where
         outside : in_set around (get_or s at 0) ≡ false
         outside = rw ep at (out_word 32 around p (omega arith) q)
 
-        pub head_short : length s ≤ at + 1 → Answer (Fault 12)
+        pub head_short : length s ≤ at + 1 → Answer (Err Rules)
         head_short h = (rw (lt-ltb at (length s) there, lt-ltb (get_or s at 0) t small, outside, le-ltb (at + 1) (length s) h), tt)
 
         module _ {long : ℕ} {b : Bool} (two : at + 1 < length s) (el : long ≡ get_or s (at + 1) 0)
@@ -51,12 +52,12 @@ module _ (t around : ℕ) (s : List ℕ) (at : ℕ) where
           test : (b' : Bool) → b ≡ b' → path_test (get_or s (at + 1) 0) (drop (at + 2) s) ≡ b'
           test b' e = sym (path_in_part s (at + 2) (get_or s (at + 1) 0) el eb) ∙ e
 
-          pub head_path : b ≡ false → Answer (Fault 12)
+          pub head_path : b ≡ false → Answer (Err Rules)
           head_path e =
               (rw (lt-ltb at (length s) there, lt-ltb (get_or s at 0) t small, outside, lt-ltb (at + 1) (length s) two, test false e), tt)
 
           module _ (e : b ≡ true) where
-            pub head_no_count : length s ≤ at + 2 + long → Answer (Fault 12)
+            pub head_no_count : length s ≤ at + 2 + long → Answer (Err Rules)
             head_no_count h =
                 let h' : length s ≤ at + 2 + get_or s (at + 1) 0 = omega arith in (
                   rw (
@@ -77,7 +78,7 @@ module _ (t around : ℕ) (s : List ℕ) (at : ℕ) where
               h' : at + 2 + get_or s (at + 1) 0 < length s
               h' = omega arith
 
-              pub head_many : 16 < count → Answer (Fault 12)
+              pub head_many : 16 < count → Answer (Err Rules)
               head_many m =
                   let m' : 16 < get_or s (at + 2 + get_or s (at + 1) 0) 0 = omega (arith, ec') in (
                     rw (
@@ -92,7 +93,7 @@ module _ (t around : ℕ) (s : List ℕ) (at : ℕ) where
                     tt,
                   )
 
-              pub head_kept : count ≤ 16 → Answer (At (at + 2 + long + 1))
+              pub head_kept : count ≤ 16 → Answer (Ok (at + 2 + long + 1))
               head_kept m =
                   let m' : get_or s (at + 2 + get_or s (at + 1) 0) 0 ≤ 16 = omega (arith, ec') in
                   let n : at + 2 + long + 1 ≡ at + 3 + get_or s (at + 1) 0 = omega arith in (

@@ -20,9 +20,10 @@ use Rattle.sheet.specs.Parsed.{path_test}
 use Rattle.sheet.proofs.RuleLaws.{head}
 use Rattle.sheet.proofs.Parsing.{passes_not_before, path_read}
 use Rattle.nested_sheet.specs.NestedSheet.{how_many, with_head, list_numbers, nested_numbers, RunInRules, ListInRules, ListWithin, NestedInRules, deepest}
-use Rattle.nested_sheet.specs.declared.rules.End.{End}
-use Rattle.nested_sheet.specs.declared.rules.End.TheVariants.{At, Fault}
-use Rattle.nested_sheet.specs.Reading.{head_end, onwards, point_test, runs_by, list_end, run_end, whole_fault, sheet_fault}
+use Rattle.std.specs.Prelude.{Result, Ok, Err}
+use Rattle.nested_sheet.specs.declared.rules.SheetFault.{SheetFault}
+use Rattle.nested_sheet.specs.declared.rules.SheetFault.TheVariants.{Rules, Nesting}
+use Rattle.nested_sheet.specs.Reading.{End, head_end, onwards, point_test, runs_by, list_end, run_end, whole_fault, sheet_fault}
 use Rattle.nested_sheet.specs.NestedRuns.{task_at, path_at, count_at, list_start, ListAt, runs_of, list_of, own_list, nested_run_of}
 use Rattle.nested_sheet.proofs.Numbers.{head_apart}
 use Rattle.nested_sheet.proofs.EndLaws.{is_at, place, HeadKept, head_says}
@@ -71,14 +72,14 @@ record ListKept (t deep : ℕ) (tasks s : List ℕ) (long left i d at next : ℕ
   pub stands : drop at s ≡ list_numbers x.runs ++ drop next s
 
 -- both parts of a reading that ends
-ended : (r : End) (go : ℕ → End) (next : ℕ) → onwards r go ≡ At next → (m : ℕ) × (r ≡ At m) × (go m ≡ At next)
-ended (Fault c) go next e = absurd (false≢true (ap is_at e))
-ended (At m) go next e = (m, refl, e)
+ended : (r : End) (go : ℕ → End) (next : ℕ) → onwards r go ≡ Ok next → (m : ℕ) × (r ≡ Ok m) × (go m ≡ Ok next)
+ended (Err c) go next e = absurd (false≢true (ap is_at e))
+ended (Ok m) go next e = (m, refl, e)
 
 module _ (t : ℕ) (s : List ℕ) where
   -- every list of this depth
   abbrev Known : ℕ → Type 0
-  Known deep = (around : ℕ) (tasks : List ℕ) → HasTasks around tasks → (long left i d at next : ℕ) → list_end t deep around s long left i d at ≡ At next
+  Known deep = (around : ℕ) (tasks : List ℕ) → HasTasks around tasks → (long left i d at next : ℕ) → list_end t deep around s long left i d at ≡ Ok next
       → ListKept t deep tasks s long left i d at next (list_of deep s left at)
 
   record RunKept (deep : ℕ) (tasks : List ℕ) (at next : ℕ) : Type 0 where
@@ -89,7 +90,7 @@ module _ (t : ℕ) (s : List ℕ) where
     pub ends : (own_list deep s at).next ≡ next
     pub stands : drop at s ≡ with_head (task_at s at) (path_at s at) (how_many (own_list deep s at).runs) (list_numbers (own_list deep s at).runs ++ drop next s)
 
-  run-kept : (deep : ℕ) → Known deep → (around : ℕ) (tasks : List ℕ) → HasTasks around tasks → (at next : ℕ) → run_end t deep around s at ≡ At next → RunKept deep tasks at next
+  run-kept : (deep : ℕ) → Known deep → (around : ℕ) (tasks : List ℕ) → HasTasks around tasks → (at next : ℕ) → run_end t deep around s at ≡ Ok next → RunKept deep tasks at next
   run-kept deep known around tasks m at next e =
       let (h, eh, el) = ended (head_end t around s at) _ next e in
       let says = head_says t around s at h eh in
@@ -108,14 +109,14 @@ module _ (t : ℕ) (s : List ℕ) where
       }
 
   runs-kept : (deep : ℕ) → Known deep → (around : ℕ) (tasks : List ℕ) → HasTasks around tasks → (long left i d at next : ℕ)
-      → runs_by (λ x. run_end t deep around s x) s long left i d at ≡ At next → ListKept t (suc deep) tasks s long left i d at next (runs_of (list_of deep s) s left at)
+      → runs_by (λ x. run_end t deep around s x) s long left i d at ≡ Ok next → ListKept t (suc deep) tasks s long left i d at next (runs_of (list_of deep s) s left at)
   runs-kept deep known around tasks m long zero i d at next e =
       record { ends = ap place e; many = refl; rules = tt; rising = tt; within = tt; stands = ap (λ (x : ℕ). drop x s) (ap place e) }
   runs-kept deep known around tasks m long (suc left) i d at next e = go (point_test s long i d at) refl e (λ x. runs-kept deep known around tasks m long left (get_or s at 0) (get_or s (at + 1) 0) x next)
     where
       go : (b : Bool) → point_test s long i d at ≡ b
-          → cond b (onwards (run_end t deep around s (at + 2)) (λ x. runs_by (λ y. run_end t deep around s y) s long left (get_or s at 0) (get_or s (at + 1) 0) x)) (Fault 12) ≡ At next
-          → ((x : ℕ) → runs_by (λ y. run_end t deep around s y) s long left (get_or s at 0) (get_or s (at + 1) 0) x ≡ At next
+          → cond b (onwards (run_end t deep around s (at + 2)) (λ x. runs_by (λ y. run_end t deep around s y) s long left (get_or s at 0) (get_or s (at + 1) 0) x)) (Err Rules) ≡ Ok next
+          → ((x : ℕ) → runs_by (λ y. run_end t deep around s y) s long left (get_or s at 0) (get_or s (at + 1) 0) x ≡ Ok next
           → ListKept t (suc deep) tasks s long left (get_or s at 0) (get_or s (at + 1) 0) x next (runs_of (list_of deep s) s left x))
           → ListKept t (suc deep) tasks s long (suc left) i d at next (runs_of (list_of deep s) s (suc left) at)
       go false p e ih = absurd (false≢true (ap is_at e))
@@ -153,18 +154,18 @@ module _ (t : ℕ) (s : List ℕ) where
   -- ---- a fault has a number
 
   abbrev Coded : End → Type 0
-  Coded (Fault c) = c ≢ 0
-  Coded (At next) = Unit {0}
+  Coded (Err c) = c ≢ 0
+  Coded (Ok next) = Unit {0}
 
   onwards_coded : (r : End) (go : ℕ → End) → Coded r → ((next : ℕ) → Coded (go next)) → Coded (onwards r go)
-  onwards_coded (Fault c) go h f = h
-  onwards_coded (At next) go h f = f next
+  onwards_coded (Err c) go h f = h
+  onwards_coded (Ok next) go h f = f next
 
   head_coded : (around at : ℕ) → Coded (head_end t around s at)
   head_coded around at = go (ltb at (length s) && ltb (get_or s at 0) t) (in_set around (get_or s at 0))
       (ltb (at + 1) (length s) && path_test (get_or s (at + 1) 0) (drop (at + 2) s) && (ltb (at + 2 + get_or s (at + 1) 0) (length s) && leb (count_at s at) 16)) (list_start s at)
     where
-      go : (a b c : Bool) (next : ℕ) → Coded (cond a (cond b (Fault 20) (cond c (At next) (Fault 12))) (Fault 12))
+      go : (a b c : Bool) (next : ℕ) → Coded (cond a (cond b (Err Nesting) (cond c (Ok next) (Err Rules))) (Err Rules))
       go false b c next = λ e. omega (arith, e)
       go true true c next = λ e. omega (arith, e)
       go true false true next = tt
@@ -175,7 +176,7 @@ module _ (t : ℕ) (s : List ℕ) where
   runs_coded one h long (suc left) i d at = go (point_test s long i d at) (runs_coded one h long left (get_or s at 0) (get_or s (at + 1) 0))
     where
       go : (b : Bool) → ((next : ℕ) → Coded (runs_by one s long left (get_or s at 0) (get_or s (at + 1) 0) next))
-          → Coded (cond b (onwards (one (at + 2)) (λ next. runs_by one s long left (get_or s at 0) (get_or s (at + 1) 0) next)) (Fault 12))
+          → Coded (cond b (onwards (one (at + 2)) (λ next. runs_by one s long left (get_or s at 0) (get_or s (at + 1) 0) next)) (Err Rules))
       go true ih = onwards_coded (one (at + 2)) _ (h (at + 2)) ih
       go false ih = λ e. omega (arith, e)
 
@@ -205,8 +206,8 @@ module _ (t : ℕ) (s : List ℕ) where
       whole next false q z = absurd (omega (arith, z))
 
       go : (r : End) → run_end t deepest 0 s 0 ≡ r → whole_fault s r ≡ 0 → SheetKept
-      go (Fault c) q z = absurd (rw q at (run_coded deepest 0 0) z)
-      go (At next) q z =
+      go (Err c) q z = absurd (rw q at (run_coded deepest 0 0) z)
+      go (Ok next) q z =
           let one = run-kept deepest (known deepest) 0 [] in_empty 0 next q in
           let last : next ≡ length s = whole next (eqb next (length s)) refl z in
           record {

@@ -20,16 +20,17 @@ use Rattle.sheet.specs.Parsed.{path_test, not_before}
 use Rattle.sheet.proofs.RuleLaws.{head}
 use Rattle.nested_sheet.specs.NestedSheet.{deepest}
 use Rattle.nested_sheet.specs.FrontToBack.{Around, a_task, a_length, a_block, a_count, a_position, no_number, tasks_of, going_on}
-use Rattle.nested_sheet.specs.declared.rules.End.{End}
-use Rattle.nested_sheet.specs.declared.rules.End.TheVariants.{At, Fault}
-use Rattle.nested_sheet.specs.Reading.{first_of, first_fault, sheet_fault, onwards, run_by, point_test, runs_by, list_end, run_end, EndsIn, whole_fault}
+use Rattle.std.specs.Prelude.{Result, Ok, Err}
+use Rattle.nested_sheet.specs.declared.rules.SheetFault.{SheetFault}
+use Rattle.nested_sheet.specs.declared.rules.SheetFault.TheVariants.{Rules, Nesting}
+use Rattle.nested_sheet.specs.Reading.{End, first_of, first_fault, sheet_fault, onwards, run_by, point_test, runs_by, list_end, run_end, EndsIn, whole_fault}
 use Rattle.nested_sheet.proofs.Numbers.{frame}
 use Rattle.nested_sheet.proofs.EndLaws.{run_ends}
 
 -- the fault of a run or a list, or that of the numbers after it, which lie within the runs of the stack
 abbrev pub continued : ℕ → Sheet → List Around → End → ℕ
-continued t s stack (Fault c) = c
-continued t s stack (At next) = first_fault t (going_on stack) (drop next s)
+continued t s stack (Err c) = c
+continued t s stack (Ok next) = first_fault t (going_on stack) (drop next s)
 
 -- the fault of a list and of the numbers after it; that of a list which lies too deep is its count's
 abbrev pub list_fault : ℕ → Sheet → List Around → Around → ℕ → ℕ
@@ -146,7 +147,7 @@ run-from t around s stack at list h e =
     (go (ltb at (length s) && ltb (get_or s at 0) t) (mem eqb (get_or s at 0) (tasks_of stack)) rest (at + 3 + long) (λ next. list long count 0 0 next) e)
   where
     go : (a m c : Bool) {x : ℕ} (n : ℕ) (f : ℕ → End) → x ≡ continued t s stack (f n)
-        → cond a (cond m 20 (cond c x 12)) 12 ≡ continued t s stack (onwards (cond a (cond m (Fault 20) (cond c (At n) (Fault 12))) (Fault 12)) f)
+        → cond a (cond m 20 (cond c x 12)) 12 ≡ continued t s stack (onwards (cond a (cond m (Err Nesting) (cond c (Ok n) (Err Rules))) (Err Rules)) f)
     go false m c n f e = refl
     go true true c n f e = refl
     go true false false n f e = refl
@@ -221,10 +222,10 @@ runs_agree t s stack j long one h (suc left) i d at =
         → ((next : ℕ) → first_fault t (going_on (frame j long left (get_or s at 0) (get_or s (at + 1) 0) ∷ stack)) (drop next s)
         ≡ continued t s stack (runs_by one s long left (get_or s at 0) (get_or s (at + 1) 0) next))
         → cond b (continued t s (frame j long left (get_or s at 0) (get_or s (at + 1) 0) ∷ stack) r) 12
-        ≡ continued t s stack (cond b (onwards r (λ next. runs_by one s long left (get_or s at 0) (get_or s (at + 1) 0) next)) (Fault 12))
+        ≡ continued t s stack (cond b (onwards r (λ next. runs_by one s long left (get_or s at 0) (get_or s (at + 1) 0) next)) (Err Rules))
     go false r ih = refl
-    go true (Fault c) ih = refl
-    go true (At next) ih = ih next
+    go true (Err c) ih = refl
+    go true (Ok next) ih = ih next
 
 -- the law for a list, where the runs of the stack and the depth left make up the deepest run
 list_agrees : (t deep around : ℕ) (s : List ℕ) (stack : List Around) (j long left i d at : ℕ) → HasTasks around (j ∷ tasks_of stack)
@@ -249,8 +250,8 @@ run_agrees t deep around s stack at h e =
 -- ---- the whole sheet
 
 whole_is : (t : ℕ) (s : List ℕ) (r : End) → EndsIn s 0 r → continued t s [] r ≡ whole_fault s r
-whole_is t s (Fault c) w = refl
-whole_is t s (At next) w = go (eqb next (length s)) refl
+whole_is t s (Err c) w = refl
+whole_is t s (Ok next) w = go (eqb next (length s)) refl
   where
     go : (b : Bool) → eqb next (length s) ≡ b → first_fault t no_number (drop next s) ≡ cond b 0 12
     go true e = rw (drop_of_length-le s {i = next} (omega (arith, eqb-true next (length s) e)))
@@ -264,10 +265,10 @@ module _ (t : ℕ) (s : Sheet) {r : End} (e : r ≡ run_end t deepest 0 s 0) whe
   whole : whole_fault s r ≡ sheet_fault t s
   whole = rw e (sym (sheet_agrees t s))
 
-  pub whole_fault_lem : {c : ℕ} → r ≡ Fault c → c ≡ sheet_fault t s
+  pub whole_fault_lem : {c : ℕ} → r ≡ Err c → c ≡ sheet_fault t s
   whole_fault_lem q = rw q at whole
 
-  module _ {next : ℕ} (q : r ≡ At next) where
+  module _ {next : ℕ} (q : r ≡ Ok next) where
     pub whole-kept : next ≡ length s → 0 ≡ sheet_fault t s
     whole-kept h = rw (q, eq-eqb next (length s) h) at whole
 

@@ -1,6 +1,6 @@
 -- Checks 12 and 20 of a nested sheet, computed: number by number, as the definitions say it, and run by run, as the code reads it. Proofs show that they
 -- agree.
-use Rattle.std.specs.Prelude.{Bool, ◌&&◌, cond, List, [], ◌∷◌, ℕ, zero, suc, ◌+◌, ◌^◌, ◌≤◌, eqb, ltb, leb, length, get_or, drop}
+use Rattle.std.specs.Prelude.{⊤, Result, Ok, Err, Bool, ◌&&◌, cond, List, [], ◌∷◌, ℕ, zero, suc, ◌+◌, ◌^◌, ◌≤◌, eqb, ltb, leb, length, get_or, drop}
 use Rattle.std.specs.Int.Bits.{bit_or}
 use Rattle.cache.specs.Sets.{in_set}
 use Rattle.model.specs.Lists.{mem}
@@ -8,8 +8,8 @@ use Rattle.sheet.specs.Sheet.{Sheet, longest_path}
 use Rattle.sheet.specs.Parsed.{path_test, not_before}
 use Rattle.nested_sheet.specs.NestedSheet.{deepest}
 use Rattle.nested_sheet.specs.FrontToBack.{Next, a_task, a_length, a_block, a_count, a_position, a_done, no_number, tasks_of, at_front, after}
-use Rattle.nested_sheet.specs.declared.rules.End.{End}
-use Rattle.nested_sheet.specs.declared.rules.End.TheVariants.{At, Fault}
+use Rattle.nested_sheet.specs.declared.rules.SheetFault.{SheetFault}
+use Rattle.nested_sheet.specs.declared.rules.SheetFault.TheVariants.{Rules, Nesting}
 
 -- ---- number by number
 
@@ -49,20 +49,29 @@ sheet_fault t sheet = first_fault t at_front sheet
 
 -- ---- run by run
 
+-- the number of a check
+abbrev pub fault_number : SheetFault → ℕ
+fault_number Rules = 12
+fault_number Nesting = 20
+
+-- where a run or a list ends: the place after it, or the check that its first number at fault is against
+abbrev pub End : Type 0
+End = Result ℕ SheetFault
+
 -- what comes after a run or a list that ends
 abbrev pub onwards : End → (ℕ → End) → End
-onwards (Fault c) go = Fault c
-onwards (At next) go = go next
+onwards (Err c) go = Fault c
+onwards (Ok next) go = go next
 
 -- the first four parts of the run that begins at `at`: task, path length, blocks and count; the set `around` has the tasks of the runs around it
 abbrev pub head_end : ℕ → ℕ → Sheet → ℕ → End
 head_end t around s at =
     cond (ltb at (length s) && ltb (get_or s at 0) t)
-    (cond (in_set around (get_or s at 0)) (Fault 20)
+    (cond (in_set around (get_or s at 0)) (Err Nesting)
     (cond (ltb (at + 1) (length s) && path_test (get_or s (at + 1) 0) (drop (at + 2) s)
     && (ltb (at + 2 + get_or s (at + 1) 0) (length s) && leb (get_or s (at + 2 + get_or s (at + 1) 0) 0) 16))
-    (At (at + 3 + get_or s (at + 1) 0)) (Fault 12)))
-    (Fault 12)
+    (Ok (at + 3 + get_or s (at + 1) 0)) (Err Rules)))
+    (Err Rules)
 
 -- the run that begins at `at`, whose list `list` reads: by the path's length, the count, the point (0, 0) and where the list begins
 abbrev pub run_by : (ℕ → ℕ → ℕ → ℕ → ℕ → End) → ℕ → ℕ → Sheet → ℕ → End
@@ -74,14 +83,14 @@ point_test s long i d at = leb (at + 2) (length s) && (ltb (get_or s at 0) long 
 
 -- `left` runs with their points, each of which `one` reads
 abbrev pub runs_by : (ℕ → End) → Sheet → ℕ → ℕ → ℕ → ℕ → ℕ → End
-runs_by one s long zero i d at = At at
+runs_by one s long zero i d at = Ok at
 runs_by one s long (suc left) i d at =
-    cond (point_test s long i d at) (onwards (one (at + 2)) (λ next. runs_by one s long left (get_or s at 0) (get_or s (at + 1) 0) next)) (Fault 12)
+    cond (point_test s long i d at) (onwards (one (at + 2)) (λ next. runs_by one s long left (get_or s at 0) (get_or s (at + 1) 0) next)) (Err Rules)
 
 -- a list of `left` runs that begins at `at`, in a path of `long` blocks, after the point (i, d); `deep` runs may lie one within the other
 unfoldable pub list_end : ℕ → ℕ → ℕ → Sheet → ℕ → ℕ → ℕ → ℕ → ℕ → End
-list_end t zero around s long zero i d at = At at
-list_end t zero around s long (suc left) i d at = Fault 20
+list_end t zero around s long zero i d at = Ok at
+list_end t zero around s long (suc left) i d at = Err Nesting
 list_end t (suc deep) around s long left i d at =
     runs_by (λ x. run_by (list_end t deep (bit_or around (2 ^ get_or s x 0)) s) t around s x) s long left i d at
 
@@ -91,10 +100,15 @@ run_end t deep around s at = run_by (list_end t deep (bit_or around (2 ^ get_or 
 
 -- the end lies between `at` and the end of the sheet
 abbrev pub EndsIn : Sheet → ℕ → End → Type 0
-EndsIn s at (Fault c) = Unit {0}
-EndsIn s at (At next) = (at ≤ next) × (next ≤ length s)
+EndsIn s at (Err c) = Unit {0}
+EndsIn s at (Ok next) = (at ≤ next) × (next ≤ length s)
 
 -- the sheet ends with its outer run
 abbrev pub whole_fault : Sheet → End → ℕ
-whole_fault s (Fault c) = c
-whole_fault s (At next) = cond (eqb next (length s)) 0 12
+whole_fault s (Err c) = fault_number c
+whole_fault s (Ok next) = cond (eqb next (length s)) 0 12
+
+-- the number of the check that a sheet is against, or 0 where there is none
+abbrev pub told_fault : Result ⊤ SheetFault → ℕ
+told_fault (Ok passed) = 0
+told_fault (Err c) = fault_number c

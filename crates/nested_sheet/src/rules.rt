@@ -1,7 +1,7 @@
 // Checks 12 and 20 of a nested sheet, read from its front: the first number at fault decides. A run reads its head and then its list, and the list
 // reads runs; the lists are at most sixteen long and seven deep, so the calls lie at most eighteen to a level one within the other.
 ghost use Rattle.std.specs.Prelude.{◌≡◌, ◌≤◌, length};
-ghost use Rattle.nested_sheet.specs.Reading.{head_end, point_test, list_end, run_end, EndsIn, sheet_fault};
+ghost use Rattle.nested_sheet.specs.Reading.{head_end, point_test, list_end, run_end, EndsIn, sheet_fault, told_fault};
 
 use cache::numbers::count;
 use sheet::rules::{not_before, path_kept};
@@ -12,44 +12,44 @@ const DEEPEST: usize = 7;
 // The most runs of a list.
 const RUNS: usize = 16;
 
-// Where a run or a list ends: the place after it, or the check that its first number at fault is against.
-#[derive(Clone, Copy)]
-pub enum End {
-    At { next: usize },
-    Fault { check: u8 },
+// What the first number at fault is against: check 12 or check 20.
+#[derive(Clone, Copy, PartialEq, Eq)]
+pub enum SheetFault {
+    Rules,
+    Nesting,
 }
 
 // Task, path length, blocks and count of the run that begins at `at`, in a file of this many tasks; the set has the tasks of the runs around it.
-fn head_end(sheet: &[u16], at: usize, tasks: usize, around: u32) -> End
+fn head_end(sheet: &[u16], at: usize, tasks: usize, around: u32) -> Result<usize, SheetFault>
     requires { (tasks ≤ 8) × (at ≤ length sheet.now) }
     ensures { (result ≡ head_end tasks around sheet.now at) × EndsIn sheet.now at result }
 {
     if sheet.len() <= at {
-        return End::Fault { check: 12 };
+        return Err(SheetFault::Rules);
     }
     let p = count(sheet[at]);
     if tasks <= p {
-        return End::Fault { check: 12 };
+        return Err(SheetFault::Rules);
     }
     if around & (1 << p) != 0 {
-        return End::Fault { check: 20 };
+        return Err(SheetFault::Nesting);
     }
     if sheet.len() <= at + 1 {
-        return End::Fault { check: 12 };
+        return Err(SheetFault::Rules);
     }
     let long = count(sheet[at + 1]);
     let from = at + 2;
     if path_kept(long, &sheet[from..]) {
         let to = from + long;
         if sheet.len() <= to {
-            return End::Fault { check: 12 };
+            return Err(SheetFault::Rules);
         }
         if RUNS < count(sheet[to]) {
-            return End::Fault { check: 12 };
+            return Err(SheetFault::Rules);
         }
-        return End::At { next: to + 1 };
+        return Ok(to + 1);
     }
-    End::Fault { check: 12 }
+    Err(SheetFault::Rules)
 }
 
 // Whether a point stands at `at`, in a path of `long` blocks, that doesn't come before the point of the position i and d references done.
@@ -69,26 +69,28 @@ fn point_kept(sheet: &[u16], at: usize, long: usize, i: usize, d: usize) -> bool
 
 // The run that begins at `at`; `deep` runs may lie one within the other below it.
 #[cycle(list_end_run_end)]
-fn run_end(sheet: &[u16], at: usize, tasks: usize, deep: usize, around: u32) -> End
+fn run_end(
+    sheet: &[u16],
+    at: usize,
+    tasks: usize,
+    deep: usize,
+    around: u32,
+) -> Result<usize, SheetFault>
     requires { (tasks ≤ 8) × (at ≤ length sheet.now) }
     ensures { (result ≡ run_end tasks deep around sheet.now at) × EndsIn sheet.now at result }
 {
-    match head_end(sheet, at, tasks, around) {
-        End::Fault { check } => End::Fault { check },
-        End::At { next } => {
-            list_end(
-                sheet,
-                next,
-                tasks,
-                deep,
-                around | (1 << count(sheet[at])),
-                count(sheet[at + 1]),
-                count(sheet[next - 1]),
-                0,
-                0,
-            )
-        }
-    }
+    let next = head_end(sheet, at, tasks, around)?;
+    list_end(
+        sheet,
+        next,
+        tasks,
+        deep,
+        around | (1 << count(sheet[at])),
+        count(sheet[at + 1]),
+        count(sheet[next - 1]),
+        0,
+        0,
+    )
 }
 
 // A list of `left` runs that begins at `at`, in a path of `long` blocks, after the point of the position i and d references done.
@@ -103,42 +105,42 @@ fn list_end(
     left: usize,
     i: usize,
     d: usize,
-) -> End
+) -> Result<usize, SheetFault>
     requires { (tasks ≤ 8) × (left ≤ 16) × (at ≤ length sheet.now) }
     ensures { (result ≡ list_end tasks deep around sheet.now long left i d at) × EndsIn sheet.now at result }
 {
     if left == 0 {
-        return End::At { next: at };
+        return Ok(at);
     }
     if deep == 0 {
-        return End::Fault { check: 20 };
+        return Err(SheetFault::Nesting);
     }
     if point_kept(sheet, at, long, i, d) {
-        return match run_end(sheet, at + 2, tasks, deep - 1, around) {
-            End::Fault { check } => End::Fault { check },
-            End::At { next } => list_end(
-                sheet,
-                next,
-                tasks,
-                deep,
-                around,
-                long,
-                left - 1,
-                count(sheet[at]),
-                count(sheet[at + 1]),
-            ),
-        };
+        let next = run_end(sheet, at + 2, tasks, deep - 1, around)?;
+        return list_end(
+            sheet,
+            next,
+            tasks,
+            deep,
+            around,
+            long,
+            left - 1,
+            count(sheet[at]),
+            count(sheet[at + 1]),
+        );
     }
-    End::Fault { check: 12 }
+    Err(SheetFault::Rules)
 }
 
-// Checks 12 and 20: the check that the first number at fault of a nested sheet is against, in a file of this many tasks, or 0 where there is none.
-pub fn sheet_fault(sheet: &[u16], tasks: usize) -> u8
+// Checks 12 and 20: the check that the first number at fault of a nested sheet is against, in a file of this many tasks, where there is one.
+pub fn sheet_fault(sheet: &[u16], tasks: usize) -> Result<(), SheetFault>
     requires { tasks ≤ 8 }
-    ensures { result ≡ sheet_fault tasks sheet.now }
+    ensures { told_fault result ≡ sheet_fault tasks sheet.now }
 {
-    match run_end(sheet, 0, tasks, DEEPEST, 0) {
-        End::Fault { check } => check,
-        End::At { next } => if next == sheet.len() { 0 } else { 12 },
+    let next = run_end(sheet, 0, tasks, DEEPEST, 0)?;
+    if next == sheet.len() {
+        Ok(())
+    } else {
+        Err(SheetFault::Rules)
     }
 }

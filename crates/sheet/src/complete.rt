@@ -5,23 +5,22 @@ ghost use Rattle.body.specs.Walk.{kept_of};
 ghost use Rattle.sheet.specs.Parsed.{complete_path, complete_by_sets};
 
 use body::jumps::jumps;
-use body::walk;
-use cache::numbers::count;
+use body::kept_walk;
 
 // Whether the path begins in block 0, steps to blocks in the set of the one before and ends in the last of the blocks.
 pub fn steps_to_end(sets: &[u32], blocks: usize, path: &[u16]) -> bool
     requires { (1 ≤ blocks) × (blocks ≤ 24) × (length sets.now ≡ 24) }
     ensures { result ≡ complete_by_sets sets.now blocks path.now }
 {
-    if path.len() < 1 {
+    let [entry, steps @ ..] = path else {
         return false;
-    }
-    if path[0] != 0 {
+    };
+    if *entry != 0 {
         return false;
     }
     let mut b: usize = 0;
-    for i in 1..path.len() {
-        let next = count(path[i]);
+    for &step in steps {
+        let next = usize::from(step);
         if blocks <= next {
             return false;
         }
@@ -38,8 +37,7 @@ pub fn complete(body: &[u8], path: &[u16]) -> bool
     requires { kept_of (decode body.now) ≡ true }
     ensures { result ≡ complete_path (task_of (decode body.now)) path.now }
 {
-    let walked = walk(body);
-    let blocks = walked.blocks;
-    let sets = jumps(body, walked);
-    steps_to_end(&sets, blocks, path)
+    let walked = kept_walk(body);
+    let sets = jumps(&walked);
+    steps_to_end(&sets, walked.blocks, path)
 }

@@ -2,8 +2,6 @@
 ghost use Rattle.std.specs.Prelude.{◌≡◌, ◌+◌, ◌≤◌, ◌<◌, length, get_or, drop};
 ghost use Rattle.sheet.specs.Parsed.{path_test, not_before, preemption_test, preemptions_from, list_test, parse, kept_list, kept_sheet};
 
-use cache::numbers::count;
-
 // The most blocks of a path.
 const BLOCKS: usize = 1536;
 
@@ -51,9 +49,9 @@ fn preemption_kept(
     ensures { result ≡ preemption_test tasks p long low low_done (get_or sheet.now at 0) (get_or sheet.now (at + 1) 0)
         (get_or sheet.now (at + 2) 0) (get_or sheet.now (at + 3) 0) (drop (at + 4) sheet.now) }
 {
-    let position = count(sheet[at]);
-    let by = count(sheet[at + 2]);
-    if not_before(low, low_done, position, count(sheet[at + 1])) {
+    let position = usize::from(sheet[at]);
+    let by = usize::from(sheet[at + 2]);
+    if not_before(low, low_done, position, usize::from(sheet[at + 1])) {
         if long <= position {
             return false;
         }
@@ -64,7 +62,7 @@ fn preemption_kept(
             return false;
         }
         let from = at + 4;
-        return path_kept(count(sheet[at + 3]), &sheet[from..]);
+        return path_kept(usize::from(sheet[at + 3]), &sheet[from..]);
     }
     false
 }
@@ -89,9 +87,9 @@ fn preemptions_kept(
             return false;
         }
         if preemption_kept(sheet, at, tasks, p, long, low, low_done) {
-            low = count(sheet[at]);
-            low_done = count(sheet[at + 1]);
-            at = at + 4 + count(sheet[at + 3]);
+            low = usize::from(sheet[at]);
+            low_done = usize::from(sheet[at + 1]);
+            at = at + 4 + usize::from(sheet[at + 3]);
         } else {
             return false;
         }
@@ -107,7 +105,7 @@ fn list_kept(sheet: &[u16], at: usize, tasks: usize, p: usize, long: usize) -> b
     if sheet.len() <= at {
         return false;
     }
-    let all = count(sheet[at]);
+    let all = usize::from(sheet[at]);
     if PREEMPTIONS < all {
         return false;
     }
@@ -121,11 +119,11 @@ pub fn sheet_kept(sheet: &[u16], tasks: usize) -> bool
     if sheet.len() < 2 {
         return false;
     }
-    let p = count(sheet[0]);
+    let p = usize::from(sheet[0]);
     if tasks <= p {
         return false;
     }
-    let long = count(sheet[1]);
+    let long = usize::from(sheet[1]);
     if path_kept(long, &sheet[2..]) {
         return list_kept(sheet, 2 + long, tasks, p, long);
     }

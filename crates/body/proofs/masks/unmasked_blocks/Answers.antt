@@ -10,13 +10,13 @@ use Rattle.cache.specs.Sets.{bits}
 use Rattle.cache.proofs.Bits.{bits-set, bits_skip}
 use Rattle.model.specs.Tasks.{block}
 use Rattle.model.specs.Computed.{unmasked}
-use Rattle.body.proofs.JumpLaws.{WalkedTask, its_task}
+use Rattle.body.proofs.JumpLaws.{WalkedTask, kept_task}
 use Rattle.body.proofs.masks.unmasked_blocks.Goals as goal
 use Rattle.body.proofs.masks.unmasked_blocks.Goals.{After-kept_walk-walked, else-body-walked-eq0, then-body-walked-eq0}
 
 -- the task of the body
 facts : (c : After-kept_walk-walked) → let w = c.kept_walk-walked.result in WalkedTask c.args.body.now w.blocks w.starts
-facts c = let w = c.kept_walk-walked.result in subst (λ s. WalkedTask s w.blocks w.starts) c.kept_walk-walked.ensures (its_task w)
+facts c = kept_task c.kept_walk-walked.result c.kept_walk-walked.ensures
 
 pub loop-b-init : goal.loop-b-init
 unfolding bits

@@ -11,10 +11,10 @@ returns-then-sheet-at c =
 pub returns-then-all-gt-PREEMPTIONS : goal.returns-then-all-gt-PREEMPTIONS
 returns-then-all-gt-PREEMPTIONS c =
     let a = c.args in
-    count-many a.tasks a.p a.long a.sheet.now a.at (omega arith) c.count-all.ensures.0 c.if-all-gt-PREEMPTIONS.true
+    count-many a.tasks a.p a.long a.sheet.now a.at (omega arith) c.from-all.ensures c.if-all-gt-PREEMPTIONS.true
 
 pub returns : goal.returns
 returns c =
     let k = c in
     let a = k.args in
-    count-list a.tasks a.p a.long a.sheet.now a.at (omega arith) k.count-all.ensures.0 c.if-all-gt-PREEMPTIONS.false c.preemptions_kept.ensures
+    count-list a.tasks a.p a.long a.sheet.now a.at (omega arith) k.from-all.ensures c.if-all-gt-PREEMPTIONS.false c.preemptions_kept.ensures

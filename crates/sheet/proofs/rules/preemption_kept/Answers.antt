@@ -10,7 +10,7 @@ returns-then-long-position c =
     let a = k.args in
     let s = a.sheet.now in
     test_outside a.tasks a.p a.long a.low a.low_done (get_or s a.at 0) (get_or s (a.at + 1) 0) (get_or s (a.at + 2) 0) (get_or s (a.at + 3) 0) (drop (a.at + 4) s)
-    k.count-position.ensures.0 k.count.ensures.0 k.count-by.ensures.0 k.not_before.ensures c.if-not_before.true c.if-long-position.true
+    k.from-position.ensures k.from.ensures k.from-by.ensures k.not_before.ensures c.if-not_before.true c.if-long-position.true
 
 pub returns-then-tasks-by : goal.returns-then-tasks-by
 returns-then-tasks-by c =
@@ -18,7 +18,7 @@ returns-then-tasks-by c =
     let a = k.args in
     let s = a.sheet.now in
     test_absent a.tasks a.p a.long a.low a.low_done (get_or s a.at 0) (get_or s (a.at + 1) 0) (get_or s (a.at + 2) 0) (get_or s (a.at + 3) 0) (drop (a.at + 4) s)
-    k.count-position.ensures.0 k.count.ensures.0 k.count-by.ensures.0 k.not_before.ensures c.if-not_before.true c.if-long-position.false c.if-tasks-by.true
+    k.from-position.ensures k.from.ensures k.from-by.ensures k.not_before.ensures c.if-not_before.true c.if-long-position.false c.if-tasks-by.true
 
 pub returns-then-by-p : goal.returns-then-by-p
 returns-then-by-p c =
@@ -26,7 +26,7 @@ returns-then-by-p c =
     let a = k.args in
     let s = a.sheet.now in
     test_own a.tasks a.p a.long a.low a.low_done (get_or s a.at 0) (get_or s (a.at + 1) 0) (get_or s (a.at + 2) 0) (get_or s (a.at + 3) 0) (drop (a.at + 4) s)
-    k.count-position.ensures.0 k.count.ensures.0 k.count-by.ensures.0 k.not_before.ensures c.if-not_before.true c.if-long-position.false c.if-tasks-by.false c.if-by-p.true
+    k.from-position.ensures k.from.ensures k.from-by.ensures k.not_before.ensures c.if-not_before.true c.if-long-position.false c.if-tasks-by.false c.if-by-p.true
 
 pub returns-then-not_before : goal.returns-then-not_before
 returns-then-not_before c =
@@ -34,8 +34,8 @@ returns-then-not_before c =
     let a = k.args in
     let s = a.sheet.now in
     test_path a.tasks a.p a.long a.low a.low_done (get_or s a.at 0) (get_or s (a.at + 1) 0) (get_or s (a.at + 2) 0) (get_or s (a.at + 3) 0) (drop (a.at + 4) s)
-    k.count-position.ensures.0 k.count.ensures.0 k.count-by.ensures.0 k.not_before.ensures c.if-not_before.true c.if-long-position.false c.if-tasks-by.false c.if-by-p.false
-    (path_in_part s (a.at + 4) (get_or s (a.at + 3) 0) c.count-then-not_before.ensures.0 c.path_kept.ensures)
+    k.from-position.ensures k.from.ensures k.from-by.ensures k.not_before.ensures c.if-not_before.true c.if-long-position.false c.if-tasks-by.false c.if-by-p.false
+    (path_in_part s (a.at + 4) (get_or s (a.at + 3) 0) c.from-then-not_before.ensures c.path_kept.ensures)
 
 pub returns : goal.returns
 returns c =
@@ -43,4 +43,4 @@ returns c =
     let a = k.args in
     let s = a.sheet.now in
     test_low a.tasks a.p a.long a.low a.low_done (get_or s a.at 0) (get_or s (a.at + 1) 0) (get_or s (a.at + 2) 0) (get_or s (a.at + 3) 0) (drop (a.at + 4) s)
-    k.count-position.ensures.0 k.count.ensures.0 k.count-by.ensures.0 k.not_before.ensures c.if-not_before.false
+    k.from-position.ensures k.from.ensures k.from-by.ensures k.not_before.ensures c.if-not_before.false

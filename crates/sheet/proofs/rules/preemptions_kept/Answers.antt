@@ -33,8 +33,8 @@ loop-k-preserved c =
     let kept = turn.preemption_kept.ensures in
     let within = list-within a.tasks a.p a.long a.all at.k at.low at.low_done (omega arith) a.sheet.now at.at (omega arith) kept turn.if-preemption_kept.true in (
       omega arith,
-      omega (arith, within, c.count.ensures.0),
-      list_turn a.tasks a.p a.long a.all at.k at.low at.low_done (omega arith) a.sheet.now at.at (omega arith) kept turn.if-preemption_kept.true c.count-low.ensures.0 c.count-low_done.ensures.0 c.count.ensures.0
+      omega (arith, within, c.from.ensures),
+      list_turn a.tasks a.p a.long a.all at.k at.low at.low_done (omega arith) a.sheet.now at.at (omega arith) kept turn.if-preemption_kept.true c.from-low.ensures c.from-low_done.ensures c.from.ensures
           ∙ at.invariant.2,
     )
 

@@ -9,22 +9,22 @@ returns-then-sheet-lt2 c = sheet-short c.args.tasks c.args.sheet.now c.if-sheet-
 pub returns-then-tasks-p : goal.returns-then-tasks-p
 returns-then-tasks-p c =
     let a = c.args in
-    sheet-task a.tasks a.sheet.now (omega arith) c.count-p.ensures.0 (omega arith)
+    sheet-task a.tasks a.sheet.now (omega arith) c.from-p.ensures (omega arith)
 
 pub list_kept-requires : goal.list_kept-requires
 list_kept-requires c =
     let k = c in
     let a = k.args in
-    path-within a.tasks a.sheet.now (omega arith) k.count-p.ensures.0 (omega arith) k.count-long.ensures.0 k.path_kept.ensures c.if-path_kept.true
+    path-within a.tasks a.sheet.now (omega arith) k.from-p.ensures (omega arith) k.from-long.ensures k.path_kept.ensures c.if-path_kept.true
 
 pub returns-then-path_kept : goal.returns-then-path_kept
 returns-then-path_kept c =
     let k = c in
     let a = k.args in
-    sheet-list a.tasks a.sheet.now (omega arith) k.count-p.ensures.0 (omega arith) k.count-long.ensures.0 k.path_kept.ensures c.if-path_kept.true c.list_kept.ensures
+    sheet-list a.tasks a.sheet.now (omega arith) k.from-p.ensures (omega arith) k.from-long.ensures k.path_kept.ensures c.if-path_kept.true c.list_kept.ensures
 
 pub returns : goal.returns
 returns c =
     let k = c in
     let a = k.args in
-    sheet-path a.tasks a.sheet.now (omega arith) k.count-p.ensures.0 (omega arith) k.count-long.ensures.0 k.path_kept.ensures c.if-path_kept.false
+    sheet-path a.tasks a.sheet.now (omega arith) k.from-p.ensures (omega arith) k.from-long.ensures k.path_kept.ensures c.if-path_kept.false
