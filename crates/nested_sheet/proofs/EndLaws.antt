@@ -13,7 +13,7 @@ use Rattle.cache.specs.Sets.{in_set}
 use Rattle.cache.proofs.Masks.{one_at}
 use Rattle.model.proofs.Membership.{both_left, both_right}
 use Rattle.sheet.specs.Parsed.{path_test}
-use Rattle.std.specs.Prelude.{Result, Ok, Err}
+use Rattle.std.specs.Prelude.{Ok, Err}
 use Rattle.nested_sheet.specs.declared.rules.SheetFault.{SheetFault}
 use Rattle.nested_sheet.specs.declared.rules.SheetFault.TheVariants.{Rules, Nesting}
 use Rattle.nested_sheet.specs.Reading.{End, head_end, onwards, run_by, point_test, runs_by, list_end, run_end, EndsIn}
@@ -128,7 +128,7 @@ module _ (t deep around : ℕ) (s : List ℕ) (at : ℕ) {h : End} (eh : h ≡ h
       ≡ run_end t deep around s at
   by_head = rw eh
 
-  pub run_fault : {c : ℕ} → h ≡ Err c → Ended s at (run_end t deep around s at) (Err c)
+  pub run_fault : {c : SheetFault} → h ≡ Err c → Ended s at (run_end t deep around s at) (Err c)
   run_fault q = ended s at (run_end t deep around s at) (run_ends t deep around s at) (rw q at by_head)
 
   module _ {next : ℕ} (q : h ≡ Ok next) where
@@ -202,7 +202,7 @@ module _ (t deep around : ℕ) (s : List ℕ) (long left i d at : ℕ) (inside :
         by-run : onwards r (λ next. list_end t deep around s long (left - 1) (get_or s at 0) (get_or s (at + 1) 0) next) ≡ list_end t deep around s long left i d at
         by-run = rw er (rw q at by_point)
 
-        pub list_fault_lem : {c : ℕ} → r ≡ Err c → Ended s at (list_end t deep around s long left i d at) (Err c)
+        pub list_fault_lem : {c : SheetFault} → r ≡ Err c → Ended s at (list_end t deep around s long left i d at) (Err c)
         list_fault_lem e = answer (rw e at by-run)
 
         pub list-next : {next j k : ℕ} {x : End} → r ≡ Ok next → j ≡ get_or s at 0 → k ≡ get_or s (at + 1) 0

@@ -12,8 +12,7 @@ use Rattle.cache.specs.Sets.{in_set}
 use Rattle.cache.proofs.Members.{in_word, out_word}
 use Rattle.sheet.specs.Parsed.{path_test, not_before}
 use Rattle.sheet.proofs.RuleLaws.{path_in_part}
-use Rattle.std.specs.Prelude.{Result, Ok, Err}
-use Rattle.nested_sheet.specs.declared.rules.SheetFault.{SheetFault}
+use Rattle.std.specs.Prelude.{Ok, Err}
 use Rattle.nested_sheet.specs.declared.rules.SheetFault.TheVariants.{Rules, Nesting}
 use Rattle.nested_sheet.specs.Reading.{End, head_end, point_test, EndsIn}
 

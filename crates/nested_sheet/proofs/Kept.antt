@@ -2,7 +2,7 @@
 -- The idea: the code's reading, run by run, says of each run and list that ends what its numbers are; an induction on the depth, and on the runs left of a list.
 use mathlib.Core.Path.{◌≡◌, refl, sym, ap, ◌∙◌}
 use mathlib.Core.Logic.{◌≢◌}
-use mathlib.Core.Bool.{Bool, true, false, ◌&&◌, cond, false≢true, true≢false}
+use mathlib.Core.Bool.{Bool, true, false, cond, false≢true, true≢false}
 use mathlib.Core.List.{List, [], ◌∷◌, ◌++◌, append-nil}
 use Prim.Native.Nat.{ℕ, zero, suc, ◌+◌, ◌^◌, ◌≤◌}
 use native.Mathlib.Omega.{arith}
@@ -11,20 +11,18 @@ use lib.Dec.{eqb, ltb, leb}
 use lib.ListN.{length, get_or, drop, take-append-drop, drop_of_length-le}
 use lib.Seq.{drop-drop}
 use borrow.Author.Tests.{eqb-true, ltb-true, leb-true, eq-eqb}
-use Rattle.cache.specs.Sets.{in_set}
 use Rattle.cache.proofs.Members.{in_empty}
 use Rattle.model.specs.Lists.{mem}
 use Rattle.model.specs.Nested.{RiseFrom, Outside}
 use Rattle.model.proofs.Membership.{both_left, both_right, or_left, or_right}
-use Rattle.sheet.specs.Parsed.{path_test}
 use Rattle.sheet.proofs.RuleLaws.{head}
 use Rattle.sheet.proofs.Parsing.{passes_not_before, path_read}
 use Rattle.nested_sheet.specs.NestedSheet.{how_many, with_head, list_numbers, nested_numbers, RunInRules, ListInRules, ListWithin, NestedInRules, deepest}
-use Rattle.std.specs.Prelude.{Result, Ok, Err}
+use Rattle.std.specs.Prelude.{Ok, Err}
 use Rattle.nested_sheet.specs.declared.rules.SheetFault.{SheetFault}
 use Rattle.nested_sheet.specs.declared.rules.SheetFault.TheVariants.{Rules, Nesting}
-use Rattle.nested_sheet.specs.Reading.{End, head_end, onwards, point_test, runs_by, list_end, run_end, whole_fault, sheet_fault}
-use Rattle.nested_sheet.specs.NestedRuns.{task_at, path_at, count_at, list_start, ListAt, runs_of, list_of, own_list, nested_run_of}
+use Rattle.nested_sheet.specs.Reading.{End, fault_number, head_end, onwards, point_test, runs_by, list_end, run_end, whole_fault, sheet_fault}
+use Rattle.nested_sheet.specs.NestedRuns.{task_at, path_at, count_at, ListAt, runs_of, list_of, own_list, nested_run_of}
 use Rattle.nested_sheet.proofs.Numbers.{head_apart}
 use Rattle.nested_sheet.proofs.EndLaws.{is_at, place, HeadKept, head_says}
 use Rattle.nested_sheet.proofs.RunByRun.{HasTasks, more_tasks, sheet_agrees}
@@ -153,43 +151,9 @@ module _ (t : ℕ) (s : List ℕ) where
 
   -- ---- a fault has a number
 
-  abbrev Coded : End → Type 0
-  Coded (Err c) = c ≢ 0
-  Coded (Ok next) = Unit {0}
-
-  onwards_coded : (r : End) (go : ℕ → End) → Coded r → ((next : ℕ) → Coded (go next)) → Coded (onwards r go)
-  onwards_coded (Err c) go h f = h
-  onwards_coded (Ok next) go h f = f next
-
-  head_coded : (around at : ℕ) → Coded (head_end t around s at)
-  head_coded around at = go (ltb at (length s) && ltb (get_or s at 0) t) (in_set around (get_or s at 0))
-      (ltb (at + 1) (length s) && path_test (get_or s (at + 1) 0) (drop (at + 2) s) && (ltb (at + 2 + get_or s (at + 1) 0) (length s) && leb (count_at s at) 16)) (list_start s at)
-    where
-      go : (a b c : Bool) (next : ℕ) → Coded (cond a (cond b (Err Nesting) (cond c (Ok next) (Err Rules))) (Err Rules))
-      go false b c next = λ e. omega (arith, e)
-      go true true c next = λ e. omega (arith, e)
-      go true false true next = tt
-      go true false false next = λ e. omega (arith, e)
-
-  runs_coded : (one : ℕ → End) → ((x : ℕ) → Coded (one x)) → (long left i d at : ℕ) → Coded (runs_by one s long left i d at)
-  runs_coded one h long zero i d at = tt
-  runs_coded one h long (suc left) i d at = go (point_test s long i d at) (runs_coded one h long left (get_or s at 0) (get_or s (at + 1) 0))
-    where
-      go : (b : Bool) → ((next : ℕ) → Coded (runs_by one s long left (get_or s at 0) (get_or s (at + 1) 0) next))
-          → Coded (cond b (onwards (one (at + 2)) (λ next. runs_by one s long left (get_or s at 0) (get_or s (at + 1) 0) next)) (Err Rules))
-      go true ih = onwards_coded (one (at + 2)) _ (h (at + 2)) ih
-      go false ih = λ e. omega (arith, e)
-
-  list_coded : (deep around long left i d at : ℕ) → Coded (list_end t deep around s long left i d at)
-  unfolding list_end
-  list_coded zero around long zero i d at = tt
-  list_coded zero around long (suc left) i d at = λ e. omega (arith, e)
-  list_coded (suc deep) around long left i d at =
-      runs_coded _ (λ x. onwards_coded (head_end t around s x) _ (head_coded around x)
-      (list_coded deep (bit_or around (2 ^ get_or s x 0)) (get_or s (x + 1) 0) (get_or s (x + 2 + get_or s (x + 1) 0) 0) 0 0)) long left i d at
-
-  run_coded : (deep around at : ℕ) → Coded (run_end t deep around s at)
-  run_coded deep around at = onwards_coded (head_end t around s at) _ (head_coded around at) (list_coded deep (bit_or around (2 ^ get_or s at 0)) _ _ 0 0)
+  some_number : (c : SheetFault) → fault_number c ≢ 0
+  some_number Rules e = absurd (omega (arith, e))
+  some_number Nesting e = absurd (omega (arith, e))
 
   -- ---- the whole sheet
 
@@ -206,7 +170,7 @@ module _ (t : ℕ) (s : List ℕ) where
       whole next false q z = absurd (omega (arith, z))
 
       go : (r : End) → run_end t deepest 0 s 0 ≡ r → whole_fault s r ≡ 0 → SheetKept
-      go (Err c) q z = absurd (rw q at (run_coded deepest 0 0) z)
+      go (Err c) q z = absurd (some_number c z)
       go (Ok next) q z =
           let one = run-kept deepest (known deepest) 0 [] in_empty 0 next q in
           let last : next ≡ length s = whole next (eqb next (length s)) refl z in

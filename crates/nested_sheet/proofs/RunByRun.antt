@@ -20,16 +20,16 @@ use Rattle.sheet.specs.Parsed.{path_test, not_before}
 use Rattle.sheet.proofs.RuleLaws.{head}
 use Rattle.nested_sheet.specs.NestedSheet.{deepest}
 use Rattle.nested_sheet.specs.FrontToBack.{Around, a_task, a_length, a_block, a_count, a_position, no_number, tasks_of, going_on}
-use Rattle.std.specs.Prelude.{Result, Ok, Err}
+use Rattle.std.specs.Prelude.{Ok, Err}
 use Rattle.nested_sheet.specs.declared.rules.SheetFault.{SheetFault}
 use Rattle.nested_sheet.specs.declared.rules.SheetFault.TheVariants.{Rules, Nesting}
-use Rattle.nested_sheet.specs.Reading.{End, first_of, first_fault, sheet_fault, onwards, run_by, point_test, runs_by, list_end, run_end, EndsIn, whole_fault}
+use Rattle.nested_sheet.specs.Reading.{End, fault_number, first_of, first_fault, sheet_fault, onwards, run_by, point_test, runs_by, list_end, run_end, EndsIn, whole_fault}
 use Rattle.nested_sheet.proofs.Numbers.{frame}
 use Rattle.nested_sheet.proofs.EndLaws.{run_ends}
 
 -- the fault of a run or a list, or that of the numbers after it, which lie within the runs of the stack
 abbrev pub continued : ℕ → Sheet → List Around → End → ℕ
-continued t s stack (Err c) = c
+continued t s stack (Err c) = fault_number c
 continued t s stack (Ok next) = first_fault t (going_on stack) (drop next s)
 
 -- the fault of a list and of the numbers after it; that of a list which lies too deep is its count's
@@ -265,7 +265,7 @@ module _ (t : ℕ) (s : Sheet) {r : End} (e : r ≡ run_end t deepest 0 s 0) whe
   whole : whole_fault s r ≡ sheet_fault t s
   whole = rw e (sym (sheet_agrees t s))
 
-  pub whole_fault_lem : {c : ℕ} → r ≡ Err c → c ≡ sheet_fault t s
+  pub whole_fault_lem : {c : SheetFault} → r ≡ Err c → fault_number c ≡ sheet_fault t s
   whole_fault_lem q = rw q at whole
 
   module _ {next : ℕ} (q : r ≡ Ok next) where

@@ -60,7 +60,7 @@ End = Result ℕ SheetFault
 
 -- what comes after a run or a list that ends
 abbrev pub onwards : End → (ℕ → End) → End
-onwards (Err c) go = Fault c
+onwards (Err c) go = Err c
 onwards (Ok next) go = go next
 
 -- the first four parts of the run that begins at `at`: task, path length, blocks and count; the set `around` has the tasks of the runs around it

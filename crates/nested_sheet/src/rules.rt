@@ -3,7 +3,6 @@
 ghost use Rattle.std.specs.Prelude.{◌≡◌, ◌≤◌, length};
 ghost use Rattle.nested_sheet.specs.Reading.{head_end, point_test, list_end, run_end, EndsIn, sheet_fault, told_fault};
 
-use cache::numbers::count;
 use sheet::rules::{not_before, path_kept};
 
 // The most runs that may lie one within the other, without the outer one.
@@ -27,7 +26,7 @@ fn head_end(sheet: &[u16], at: usize, tasks: usize, around: u32) -> Result<usize
     if sheet.len() <= at {
         return Err(SheetFault::Rules);
     }
-    let p = count(sheet[at]);
+    let p = usize::from(sheet[at]);
     if tasks <= p {
         return Err(SheetFault::Rules);
     }
@@ -37,14 +36,14 @@ fn head_end(sheet: &[u16], at: usize, tasks: usize, around: u32) -> Result<usize
     if sheet.len() <= at + 1 {
         return Err(SheetFault::Rules);
     }
-    let long = count(sheet[at + 1]);
+    let long = usize::from(sheet[at + 1]);
     let from = at + 2;
     if path_kept(long, &sheet[from..]) {
         let to = from + long;
         if sheet.len() <= to {
             return Err(SheetFault::Rules);
         }
-        if RUNS < count(sheet[to]) {
+        if RUNS < usize::from(sheet[to]) {
             return Err(SheetFault::Rules);
         }
         return Ok(to + 1);
@@ -60,11 +59,11 @@ fn point_kept(sheet: &[u16], at: usize, long: usize, i: usize, d: usize) -> bool
     if sheet.len() < at + 2 {
         return false;
     }
-    let position = count(sheet[at]);
+    let position = usize::from(sheet[at]);
     if long <= position {
         return false;
     }
-    not_before(i, d, position, count(sheet[at + 1]))
+    not_before(i, d, position, usize::from(sheet[at + 1]))
 }
 
 // The run that begins at `at`; `deep` runs may lie one within the other below it.
@@ -85,9 +84,9 @@ fn run_end(
         next,
         tasks,
         deep,
-        around | (1 << count(sheet[at])),
-        count(sheet[at + 1]),
-        count(sheet[next - 1]),
+        around | (1 << usize::from(sheet[at])),
+        usize::from(sheet[at + 1]),
+        usize::from(sheet[next - 1]),
         0,
         0,
     )
@@ -125,8 +124,8 @@ fn list_end(
             around,
             long,
             left - 1,
-            count(sheet[at]),
-            count(sheet[at + 1]),
+            usize::from(sheet[at]),
+            usize::from(sheet[at + 1]),
         );
     }
     Err(SheetFault::Rules)

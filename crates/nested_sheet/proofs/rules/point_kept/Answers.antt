@@ -13,12 +13,12 @@ returns-then-long-position c =
     let k = c in
     let a = k.args in
     let there = k.if-sheet-at.false in
-    point_outside a.sheet.now a.long a.i a.d a.at (omega (arith, there)) k.count-position.ensures.0 c.if-long-position.true
+    point_outside a.sheet.now a.long a.i a.d a.at (omega (arith, there)) k.from-position.ensures c.if-long-position.true
 
 pub returns : goal.returns
 returns c =
     let k = c in
     let a = k.args in
     let there = k.if-sheet-at.false in
-    point_order a.sheet.now a.long a.i a.d a.at (omega (arith, there)) k.count-position.ensures.0 (omega (arith, c.if-long-position.false)) c.count.ensures.0
+    point_order a.sheet.now a.long a.i a.d a.at (omega (arith, there)) k.from-position.ensures (omega (arith, c.if-long-position.false)) c.from.ensures
     c.not_before.ensures
