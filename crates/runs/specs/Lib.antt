@@ -1,2 +1,3 @@
 pub mod Running
 pub mod Parts
+pub mod Props

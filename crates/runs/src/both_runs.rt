@@ -42,6 +42,7 @@ pub fn refer_both(
         references.now) }
 {
     let mut so_far = lost;
+    // By number: each reference is two bytes.
     for i in 0..references.len() / 2 {
         let m = reference_at(references, i);
         let before = refer(undisturbed, m, shape);

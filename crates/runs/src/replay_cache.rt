@@ -54,6 +54,7 @@ pub fn refer_all(references: &[u8], shape: CacheShape, cache: &mut ReplayCache)
     requires { Holds 32 shape × (cache.old.misses + length references.now / 2 < 2 ^ 32) }
     ensures { held cache.new ≡ own_references (shaped 32 shape) (held cache.old) (numbers references.now) }
 {
+    // By number: each reference is two bytes.
     for i in 0..references.len() / 2 {
         refer(cache, reference_at(references, i), shape);
     }

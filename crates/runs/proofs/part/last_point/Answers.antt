@@ -5,4 +5,4 @@ use lib.ListN.{length}
 use Rattle.runs.proofs.part.last_point.Goals as goal
 
 pub returns : goal.returns
-returns c = ap (λ (d : ℕ). record { position = length c.args.path.now - 1; done = d }) c.count_on-done.ensures
+returns c = ap (λ (d : ℕ). record { position = length c.args.on.now.path.now - 1; done = d }) c.count_on-done.ensures

@@ -10,7 +10,7 @@ use Rattle.model.specs.Tasks.{Task, references}
 use Rattle.model.specs.Runs.{own_references}
 use Rattle.body.specs.Layout.{InBounds}
 use Rattle.body.specs.Decode.{decode, task_of}
-use Rattle.runs.specs.Running.{held}
+use Rattle.runs.specs.Running.{held, RunsIn}
 use Rattle.runs.specs.Parts.{part_of, last_point, PartIn}
 use Rattle.runs.specs.declared.part.PathPoint.{PathPoint}
 use Rattle.runs.proofs.PathCounts.{references-few}
@@ -32,27 +32,34 @@ module _ (t : Task) (path : List ℕ) (some : 0 < length path) where
   room : InBounds t → (count : ℕ) → count + 16 * length path < 2 ^ 32 → count + length (part_of t path first (last_point t path)) < 2 ^ 32
   room h count few = omega (arith, ap length all, references-few t h path)
 
+pub invariant_of-on : goal.invariant_of-on
+invariant_of-on c =
+    let w = c.kept_walk-walked.result in
+    let runs = subst (λ b. RunsIn b c.args.path.now) (sym c.kept_walk-walked.ensures) c.requires.0 in
+    record { there = record { runs = runs; begin = w.walked.2 } }
+
+pub invariant_of-part : goal.invariant_of-part
+invariant_of-part c =
+    let t = task_of (decode c.kept_walk-walked.result.body.now) in
+    let path = c.args.path.now in
+    record { within = subst (λ (p : PathPoint). PartIn t path first p) (sym c.last_point-to.ensures) (part t path c.requires.2) }
+
 pub after_part-requires : goal.after_part-requires
 after_part-requires c =
-    let start = c in
-    let begin = c.walk.ensures.2 in
-    let body = start.args.body.now in
-    let t = task_of (decode body) in
-    let path = start.args.path.now in
-    let misses = start.args.cache.misses in
-    let bounds = (walked body _ start.requires.0.kept begin).bounds in
-    let last = sym c.last_point-last.ensures in (
-      record { runs = start.requires.0; begin = begin },
-      subst (λ (p : PathPoint). PartIn t path first p) last (part t path start.requires.2),
-      start.requires.1,
-      subst (λ (p : PathPoint). misses + length (part_of t path first p) < 2 ^ 32) last (room t path start.requires.2 bounds misses start.requires.3),
+    let w = c.kept_walk-walked.result in
+    let t = task_of (decode w.body.now) in
+    let path = c.args.path.now in
+    let misses = c.args.cache.misses in
+    let bounds = (walked w.body.now _ w.walked.0 w.walked.2).bounds in (
+      c.requires.1,
+      subst (λ (p : PathPoint). misses + length (part_of t path first p) < 2 ^ 32) (sym c.last_point-to.ensures) (room t path c.requires.2 bounds misses c.requires.3),
     )
 
 pub returns : goal.returns
 returns c =
-    let start = c in
-    let t = task_of (decode start.args.body.now) in
-    let path = start.args.path.now in
+    let w = c.kept_walk-walked.result in
+    let t = task_of (decode w.body.now) in
+    let path = c.args.path.now in
     c.after_part.ensures
-    ∙ ap (own_references (shaped 32 start.args.shape) (held start.args.cache))
-    (ap (part_of t path first) c.last_point-last.ensures ∙ all t path start.requires.2)
+    ∙ ap (own_references (shaped 32 c.args.shape) (held c.args.cache))
+    (ap (part_of t path first) c.last_point-to.ensures ∙ all t path c.requires.2 ∙ ap (λ b. references (task_of (decode b)) path) c.kept_walk-walked.ensures)
