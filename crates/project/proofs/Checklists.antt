@@ -10,7 +10,7 @@ use native.Mathlib.Omega.{arith}
 use lib.Dec.{eqb, ltb}
 use lib.ListN.{length, get_or}
 use borrow.Author.Tests.{ltb-true, ltb-false}
-use Rattle.std.specs.Prelude.{Ok, Err}
+use Rattle.std.specs.Prelude.{Result, Ok, Err, IsErr, IsErrAnd}
 use Rattle.project.specs.declared.answers.Check.{Check}
 use Rattle.project.specs.declared.answers.Check.TheVariants.{ListLength, FileLength, WrongMark, WrongEdition, CacheBlocks, TaskCount, WrongContents, BrokenLayout, OffPath, TooManyStates, SheetRules, WrongPath, OutLength, NoSuchTask, MaskedPoint, OutOfBounds, SameTasks, SheetLength, TooDeep, WrongTimes}
 use Rattle.project.specs.declared.answers.Refusal.{Refusal}
@@ -151,6 +151,18 @@ verdict_unique (e ∷ es) (Err r) (Err q) (inr (x, v)) (inr (y, w)) = verdict_un
 -- checks none of which has a fault pass
 pub passed_computed : (es : List Entry) → Agreeing es → AllPass es → verdict_of es ≡ Ok tt
 passed_computed es h p = verdict_unique es (verdict_of es) (Ok tt) (verdict_exact es h) p
+
+-- an answer is no refusal
+pub ok-not-err : {A : Type 0} {x : A} {r : Refusal} → ◌≡◌ {A = Result A Refusal} (Ok x) (Err r) → ⊥
+ok-not-err e = cc
+
+-- what `?` hands on of a refusal is the refusal
+pub refused_by : {A : Type 0} {q : Result A Refusal} {r : Refusal} → IsErr q × IsErrAnd q (λ e. e ≡ r) → q ≡ Err r
+refused_by {A} {q} {r} h = go q h.0 h.1
+  where
+    go : (p : Result A Refusal) → IsErr p → IsErrAnd p (λ e. e ≡ r) → p ≡ Err r
+    go (Ok x) f e = absurd e
+    go (Err x) f e = ap (λ (k : Refusal). Err k) e
 
 -- ---- lists joined
 
