@@ -201,6 +201,9 @@ module _ (s : List ℕ) (j : ℕ) {start : ℕ} (e : start ≡ contents_start (e
 
 -- ---- the two answers
 
+pub none_not_some : {ends : List ℕ} → None ≡ Some ends → ⊥
+none_not_some e = cc
+
 pub answer_fit : (s : List ℕ) (t : ℕ) {ends : List ℕ} → contents_fit s t 0 (bodies_start (edition s) t) ≡ true → ends ≡ nine (ends_from s t 0 (bodies_start (edition s) t))
     → Some ends ≡ ends_of s t
 answer_fit s t e q = rw (e, q)

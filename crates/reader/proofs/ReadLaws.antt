@@ -18,11 +18,8 @@ use Rattle.project.specs.Checklist.{no_task, refusal, Checked, answered, and_the
 use Rattle.project.specs.Reading.{test2, test3, test4, test5, count_test, reserve_test, test6, contents_fit, test7, head_check_up_to, tasks_check, Reading, counts_of, reading_up_to, reading_of}
 use Rattle.project.specs.Bodies.{has_body, place_start, place_length, body_part}
 use Rattle.project.specs.Ends.{ends_from, nine, between, ends_of, InOrder}
-use Rattle.project.proofs.ContentsLaws.{fit_within, end-next, end_offset, end-rises, end-inside, between-bodies}
+use Rattle.project.proofs.ContentsLaws.{none_not_some, fit_within, end-next, end_offset, end-rises, end-inside, between-bodies}
 use Rattle.project.proofs.Accepted.{file-parts, passing_up_to, accepted_up_to, unless-passed, or_false_left, or_false_right}
-
-none_not_some : {x : List ℕ} → None ≡ Some x → ⊥
-none_not_some e = cc
 
 -- ---- a head that passes
 
