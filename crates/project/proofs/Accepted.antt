@@ -15,28 +15,28 @@ use Rattle.model.specs.Lists.{Each}
 use Rattle.model.specs.Computed.{same_list}
 use Rattle.model.proofs.Membership.{both_right, same_list_self, same_list_true}
 use Rattle.body.proofs.Decoded.{decoded-long}
+use Rattle.std.specs.Prelude.{Ok, Err}
 use Rattle.project.specs.declared.answers.Check.{Check}
-use Rattle.project.specs.declared.answers.Check.TheVariants.{Passed}
-use Rattle.project.specs.declared.answers.Check.TheVariants.{Refused as Failed}
-use Rattle.project.specs.declared.answers.Reading.TheVariants.{Accepted}
+use Rattle.project.specs.declared.answers.Check.TheVariants.{FileLength, WrongMark, WrongEdition, CacheBlocks, TaskCount, WrongContents, BrokenLayout}
+use Rattle.project.specs.declared.answers.Accepted.{Accepted}
 use Rattle.project.specs.File.{mark, edition, cache_blocks, task_count, reserve, contents_start, bodies_start, offset_of, size_of, bodies, joined, contents_of, head_of, file_in}
 use Rattle.project.specs.Checks.{longest}
 use Rattle.project.specs.Tasks.{file_shape}
-use Rattle.project.specs.Checklist.{no_task, and_then, unless, lowest}
-use Rattle.project.specs.Reading.{test2, test3, test4, test5, count_test, reserve_test, test6, contents_fit, test7, test8, head_checks_up_to, contents_checks, head_check_up_to, tasks_check, file_check_up_to, file_check, pick_reading, reading_up_to, reading_of}
+use Rattle.project.specs.Checklist.{no_task, refusal, Checked, answered, and_then, unless, lowest}
+use Rattle.project.specs.Reading.{test2, test3, test4, test5, count_test, reserve_test, test6, contents_fit, test7, test8, head_checks_up_to, contents_checks, head_check_up_to, tasks_check, file_check_up_to, file_check, counts_of, reading_up_to, reading_of}
 use Rattle.project.proofs.Checklists.{verdict_append}
 use Rattle.project.proofs.TaskFaults.{Bytes, kept-task}
 use Rattle.project.proofs.RoundTrips.{length-file, length-bodies, file_contents, file-bodies, read_contents}
 
 -- ---- checks that pass
 
-pub unless-passed : (c a : ℕ) (b : Bool) (r : Check) → and_then (unless c a b) r ≡ Passed → (b ≡ false) × (r ≡ Passed)
-unless-passed c a true r e = let z : ◌≡◌ {A = ℕ} 0 1 = cc in absurd (omega arith)
+pub unless-passed : (c : Check) (a : ℕ) (b : Bool) (r : Checked) → and_then (unless c a b) r ≡ Ok tt → (b ≡ false) × (r ≡ Ok tt)
+unless-passed c a true r e = absurd cc
 unless-passed c a false r e = (refl, e)
 
-pub then_passed : (q r : Check) → and_then q r ≡ Passed → (q ≡ Passed) × (r ≡ Passed)
-then_passed Passed r e = (refl, e)
-then_passed (Failed c a) r e = let z : ◌≡◌ {A = ℕ} 0 1 = cc in absurd (omega arith)
+pub then_passed : (q r : Checked) → and_then q r ≡ Ok tt → (q ≡ Ok tt) × (r ≡ Ok tt)
+then_passed (Ok x) r e = (refl, e)
+then_passed (Err x) r e = absurd cc
 
 pub or_false_left : (a b : Bool) → (a || b) ≡ false → a ≡ false
 or_false_left true b e = e
@@ -60,23 +60,23 @@ pub record Passing (e : ℕ) (s : List ℕ) : Type 0 where
   pub zero_byte : get_or s 7 0 ≡ 0
   pub zeros : take (reserve (edition s)) (drop 8 s) ≡ replicate (reserve (edition s)) 0
   pub fit : contents_fit s (task_count s) 0 (bodies_start (edition s) (task_count s)) ≡ true
-  pub tasks : tasks_check (bodies s) ≡ Passed
+  pub tasks : tasks_check (bodies s) ≡ Ok tt
 
 module _ (e : ℕ) (s : List ℕ) where
   -- the checks of a file: those on its head, the contents, and those on its bodies
-  pub file-parts : file_check_up_to e s ≡ and_then (head_check_up_to e s) (and_then (unless 7 no_task (test7 s)) (tasks_check (bodies s)))
+  pub file-parts : file_check_up_to e s ≡ and_then (head_check_up_to e s) (and_then (unless WrongContents no_task (test7 s)) (tasks_check (bodies s)))
   file-parts = verdict_append (head_checks_up_to e s) (contents_checks s)
 
-  pub passing_up_to : file_check_up_to e s ≡ Passed → Passing e s
+  pub passing_up_to : file_check_up_to e s ≡ Ok tt → Passing e s
   passing_up_to p =
       let k = edition s in
       let (h, r) = then_passed (head_check_up_to e s) _ (sym file-parts ∙ p) in
-      let (e7, tasks) = unless-passed 7 no_task (test7 s) (tasks_check (bodies s)) r in
-      let (e2, h3) = unless-passed 2 no_task (test2 e s) _ h in
-      let (e3, h4) = unless-passed 3 no_task (test3 s) _ h3 in
-      let (e4, h5) = unless-passed 4 no_task (test4 e k) _ h4 in
-      let (e5, h6) = unless-passed 5 no_task (test5 k (cache_blocks s)) _ h5 in
-      let e6 = (unless-passed 6 no_task (test6 s) Passed h6).0 in
+      let (e7, tasks) = unless-passed WrongContents no_task (test7 s) (tasks_check (bodies s)) r in
+      let (e2, h3) = unless-passed FileLength no_task (test2 e s) _ h in
+      let (e3, h4) = unless-passed WrongMark no_task (test3 s) _ h3 in
+      let (e4, h5) = unless-passed WrongEdition no_task (test4 e k) _ h4 in
+      let (e5, h6) = unless-passed CacheBlocks no_task (test5 k (cache_blocks s)) _ h5 in
+      let e6 = (unless-passed TaskCount no_task (test6 s) (Ok tt) h6).0 in
       let et = or_false_left (count_test (task_count s)) (not (eqb (get_or s 7 0) 0) || reserve_test s) e6 in
       let ez = or_false_right (count_test (task_count s)) (not (eqb (get_or s 7 0) 0) || reserve_test s) e6 in
       record {
@@ -95,22 +95,22 @@ module _ (e : ℕ) (s : List ℕ) where
         tasks = tasks;
       }
 
-  pub accepted_up_to : (n t : ℕ) → reading_up_to e s ≡ Accepted n t → (file_check_up_to e s ≡ Passed) × (n ≡ cache_blocks s) × (t ≡ task_count s)
-  accepted_up_to n t a = go (file_check_up_to e s) refl a
+  pub accepted_up_to : (a : Accepted) → reading_up_to e s ≡ Ok a → (file_check_up_to e s ≡ Ok tt) × (a.n ≡ cache_blocks s) × (a.t ≡ task_count s)
+  accepted_up_to a h = go (file_check_up_to e s) refl h
     where
-      go : (r : Check) → file_check_up_to e s ≡ r → pick_reading r (cache_blocks s) (task_count s) ≡ Accepted n t → (file_check_up_to e s ≡ Passed) × (n ≡ cache_blocks s) × (t ≡ task_count s)
-      go Passed q a = (q, cc, cc)
-      go (Failed c b) q a = let z : ◌≡◌ {A = ℕ} 0 1 = cc in absurd (omega arith)
+      go : (r : Checked) → file_check_up_to e s ≡ r → answered r (counts_of s) ≡ Ok a → (file_check_up_to e s ≡ Ok tt) × (a.n ≡ cache_blocks s) × (a.t ≡ task_count s)
+      go (Ok x) q h = let same : counts_of s ≡ a = cc in (q, ap (λ (k : Accepted). k.n) (sym same), ap (λ (k : Accepted). k.t) (sym same))
+      go (Err r) q h = absurd cc
 
 -- in calls that read edition 1
-pub passing : (s : List ℕ) → file_check s ≡ Passed → Passing 1 s
+pub passing : (s : List ℕ) → file_check s ≡ Ok tt → Passing 1 s
 passing s p = passing_up_to 1 s p
 
-pub accepted-passed : (s : List ℕ) (n t : ℕ) → reading_of s ≡ Accepted n t → (file_check s ≡ Passed) × (n ≡ cache_blocks s) × (t ≡ task_count s)
-accepted-passed s n t e = accepted_up_to 1 s n t e
+pub accepted-passed : (s : List ℕ) (a : Accepted) → reading_of s ≡ Ok a → (file_check s ≡ Ok tt) × (a.n ≡ cache_blocks s) × (a.t ≡ task_count s)
+accepted-passed s a e = accepted_up_to 1 s a e
 
 -- rows of sixteen places or more have one for each cache block of an accepted file
-pub file-holds : (w : ℕ) → 16 ≤ w → (s : List ℕ) {shape : CacheShape} → file_check s ≡ Passed → shape ≡ file_shape s → Holds w shape
+pub file-holds : (w : ℕ) → 16 ≤ w → (s : List ℕ) {shape : CacheShape} → file_check s ≡ Ok tt → shape ≡ file_shape s → Holds w shape
 file-holds w h s p e =
     let is = passing s p in
     let same = ap (λ (x : CacheShape). x.blocks) e in
@@ -156,18 +156,18 @@ written_again e s h p =
 
 -- ---- what is written is accepted
 
-pub none-lowest : (c j : ℕ) (test : List ℕ → Bool) (bs : List (List ℕ)) → lowest c j (map test bs) ≡ Passed → Each (λ (b : List ℕ). test b ≡ false) bs
+pub none-lowest : (c : Check) (j : ℕ) (test : List ℕ → Bool) (bs : List (List ℕ)) → lowest c j (map test bs) ≡ Ok tt → Each (λ (b : List ℕ). test b ≡ false) bs
 none-lowest c j test [] e = tt
 none-lowest c j test (b ∷ bs) e = go (test b) refl e (none-lowest c (suc j) test bs)
   where
-    go : (s : Bool) → test b ≡ s → cond s (Failed c j) (lowest c (suc j) (map test bs)) ≡ Passed → (lowest c (suc j) (map test bs) ≡ Passed → Each (λ (b : List ℕ). test b ≡ false) bs)
+    go : (s : Bool) → test b ≡ s → cond s (Err (refusal c j)) (lowest c (suc j) (map test bs)) ≡ Ok tt → (lowest c (suc j) (map test bs) ≡ Ok tt → Each (λ (b : List ℕ). test b ≡ false) bs)
         → Each (λ (b : List ℕ). test b ≡ false) (b ∷ bs)
-    go true q e ih = let z : ◌≡◌ {A = ℕ} 0 1 = cc in absurd (omega arith)
+    go true q e ih = absurd cc
     go false q e ih = (q, ih e)
 
 -- bodies that pass check 8
-pub tasks_kept : (bs : List (List ℕ)) → tasks_check bs ≡ Passed → Each (λ (b : List ℕ). test8 b ≡ false) bs
-tasks_kept bs ok = none-lowest 8 0 test8 bs (then_passed (lowest 8 0 (map test8 bs)) _ ok).0
+pub tasks_kept : (bs : List (List ℕ)) → tasks_check bs ≡ Ok tt → Each (λ (b : List ℕ). test8 b ≡ false) bs
+tasks_kept bs ok = none-lowest BrokenLayout 0 test8 bs (then_passed (lowest BrokenLayout 0 (map test8 bs)) _ ok).0
 
 pub joined-long : (bs : List (List ℕ)) → Each (λ (b : List ℕ). test8 b ≡ false) bs → length (joined bs) ≤ 938 * length bs
 joined-long [] k = omega arith
@@ -176,7 +176,7 @@ joined-long (b ∷ bs) k =
     omega (arith, length-append b (joined bs), joined-long bs k.1, decoded-long b t q)
 
 -- the file of an edition that is read
-module _ (e k n : ℕ) (bs : List (List ℕ)) (k-ok : test4 e k ≡ false) (n-ok : test5 k n ≡ false) (t-ok : count_test (length bs) ≡ false) (ok : tasks_check bs ≡ Passed) where
+module _ (e k n : ℕ) (bs : List (List ℕ)) (k-ok : test4 e k ≡ false) (n-ok : test5 k n ≡ false) (t-ok : count_test (length bs) ≡ false) (ok : tasks_check bs ≡ Ok tt) where
   k_low : 1 ≤ k
   k_low = ltb-false k 1 (or_false_left (ltb k 1) (ltb e k) k-ok)
 
@@ -194,8 +194,8 @@ module _ (e k n : ℕ) (bs : List (List ℕ)) (k-ok : test4 e k ≡ false) (n-ok
       ap (λ x. not (same_list x (replicate (reserve k) 0))) (take_at (replicate (reserve k) 0) _ (reserve k) (length-replicate {A = ℕ} (reserve k) 0))
       ∙ ap not (same_list_self (replicate (reserve k) 0))
 
-  pub written_passes : file_check_up_to e (file_in k n bs) ≡ Passed
+  pub written_passes : file_check_up_to e (file_in k n bs) ≡ Ok tt
   written_passes = file-parts e (file_in k n bs) ∙ rw (file-short, k-ok, n-ok, t-ok, file-reserve, (file_contents k n bs k_low).0, file-bodies k n bs k_low) ok
 
-  pub written_accepted : reading_up_to e (file_in k n bs) ≡ Accepted n (length bs)
+  pub written_accepted : reading_up_to e (file_in k n bs) ≡ Ok (record { n = n; t = length bs })
   written_accepted = rw written_passes

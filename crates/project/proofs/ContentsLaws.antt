@@ -12,6 +12,7 @@ use lib.Dec.{eqb}
 use lib.ListN.{length, get_or, take, drop, set, replicate, get_or-append}
 use lib.Seq.{length-take-le, take-suc, set_at}
 use borrow.Author.Tests.{eqb-true, eq-eqb, ne_eqb}
+use Rattle.std.specs.Prelude.{Some, None}
 use Rattle.cache.specs.References.{number_at}
 use Rattle.model.proofs.Membership.{both_left, both_right}
 use Rattle.project.specs.File.{edition, task_count, contents_start, bodies_start, offset_of, size_of, bodies_from}
@@ -200,12 +201,15 @@ module _ (s : List ℕ) (j : ℕ) {start : ℕ} (e : start ≡ contents_start (e
 
 -- ---- the two answers
 
-pub answer_fit : (s : List ℕ) (t : ℕ) {ends : List ℕ} → contents_fit s t 0 (bodies_start (edition s) t) ≡ true → ends ≡ nine (ends_from s t 0 (bodies_start (edition s) t))
-    → (true ≡ contents_fit s t 0 (bodies_start (edition s) t)) × (ends ≡ ends_of s t)
-answer_fit s t e q = (sym e, rw e q)
+pub none_not_some : {ends : List ℕ} → None ≡ Some ends → ⊥
+none_not_some e = cc
 
-pub answer-none : (s : List ℕ) (t : ℕ) → contents_fit s t 0 (bodies_start (edition s) t) ≡ false → (false ≡ contents_fit s t 0 (bodies_start (edition s) t)) × (replicate 9 0 ≡ ends_of s t)
-answer-none s t e = (sym e, rw e)
+pub answer_fit : (s : List ℕ) (t : ℕ) {ends : List ℕ} → contents_fit s t 0 (bodies_start (edition s) t) ≡ true → ends ≡ nine (ends_from s t 0 (bodies_start (edition s) t))
+    → Some ends ≡ ends_of s t
+answer_fit s t e q = rw (e, q)
+
+pub answer-none : (s : List ℕ) (t : ℕ) → contents_fit s t 0 (bodies_start (edition s) t) ≡ false → None ≡ ends_of s t
+answer-none s t e = rw e
 
 -- a file that ends within its contents
 pub too_short : (s : List ℕ) (t : ℕ) → length s < bodies_start (edition s) t → contents_fit s t 0 (bodies_start (edition s) t) ≡ false

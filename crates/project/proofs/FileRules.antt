@@ -19,8 +19,9 @@ use Rattle.model.proofs.Demand.{demand_3}
 use Rattle.body.specs.Layout.{InBounds}
 use Rattle.body.specs.Decode.{decoded, decode, task_of}
 use Rattle.body.proofs.Decoded.{decoded-bounds, decoded-real}
-use Rattle.project.specs.declared.answers.Check.TheVariants.{Passed}
-use Rattle.project.specs.declared.answers.Reading.TheVariants.{Accepted}
+use Rattle.std.specs.Prelude.{Ok}
+use Rattle.project.specs.declared.answers.Check.TheVariants.{BrokenLayout, OffPath}
+use Rattle.project.specs.declared.answers.Accepted.{Accepted}
 use Rattle.project.specs.File.{cache_blocks, bodies}
 use Rattle.project.specs.Checks.{body}
 use Rattle.project.specs.Checklist.{lowest}
@@ -43,14 +44,14 @@ task_in (b ∷ bs) (suc j) = task_in bs j
 beyond : (bs : List (List ℕ)) (j : ℕ) → length bs ≤ j → task (tasks_in bs) j ≡ []
 beyond bs j h = get_or-eq_default (tasks_in bs) [] {n = j} (rw length-map h)
 
-module _ (bs : List (List ℕ)) (ok : tasks_check bs ≡ Passed) where
+module _ (bs : List (List ℕ)) (ok : tasks_check bs ≡ Ok tt) where
   kept : (j : ℕ) → j < length bs → test8 (body bs j) ≡ false
   kept = each_at (λ (b : List ℕ). test8 b ≡ false) bs (tasks_kept bs ok)
 
   on_path_lem : (j : ℕ) → j < length bs → test9 (body bs j) ≡ false
   on_path_lem =
       each_at (λ (b : List ℕ). test9 b ≡ false) bs
-      (none-lowest 9 0 test9 bs (then_passed (lowest 9 0 (map test9 bs)) _ (then_passed (lowest 8 0 (map test8 bs)) _ ok).1).0)
+      (none-lowest OffPath 0 test9 bs (then_passed (lowest OffPath 0 (map test9 bs)) _ (then_passed (lowest BrokenLayout 0 (map test8 bs)) _ ok).1).0)
 
   -- the task of body j
   pub record At (j : ℕ) : Type 0 where
@@ -85,12 +86,12 @@ module _ (bs : List (List ℕ)) (ok : tasks_check bs ≡ Passed) where
   }
 
 -- the tasks of an accepted file
-pub file-rules : (s : List ℕ) → Bytes s → (n t : ℕ) → reading_of s ≡ Accepted n t → Rules (tasks_of s)
-file-rules s h n t e = bodies-rules (bodies s) (passing s (accepted-passed s n t e).0).tasks
+pub file-rules : (s : List ℕ) → Bytes s → (a : Accepted) → reading_of s ≡ Ok a → Rules (tasks_of s)
+file-rules s h a e = bodies-rules (bodies s) (passing s (accepted-passed s a e).0).tasks
 
 -- demand 3 of an accepted file
-pub file-demand_3 : (s : List ℕ) → Bytes s → (n t : ℕ) → reading_of s ≡ Accepted n t → Demand3 (file_cache s) (tasks_of s)
-file-demand_3 s h n t e = demand_3 (file_cache s) (tasks_of s) (file-rules s h n t e)
+pub file-demand_3 : (s : List ℕ) → Bytes s → (a : Accepted) → reading_of s ≡ Ok a → Demand3 (file_cache s) (tasks_of s)
+file-demand_3 s h a e = demand_3 (file_cache s) (tasks_of s) (file-rules s h a e)
 
 -- "two accepted files that agree in these agree in it"
 pub pair_agrees : (r s : List ℕ) (i j k l : ℕ) → cache_blocks r ≡ cache_blocks s → task (tasks_of r) i ≡ task (tasks_of s) k → task (tasks_of r) j ≡ task (tasks_of s) l

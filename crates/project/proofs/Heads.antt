@@ -4,14 +4,18 @@ use mathlib.Core.Path.{◌≡◌, refl, sym, ap, ◌∙◌}
 use mathlib.Core.Bool.{Bool, true, false, ◌||◌}
 use mathlib.Core.List.{List}
 use Prim.Native.Nat.{ℕ, ◌≤◌, ◌<◌}
-use native.Mathlib.Omega.{arith}
-use lib.Dec.{ltb}
-use lib.ListN.{length, take, drop, replicate, length-take, length-drop}
+use lib.Dec.{eqb, ltb}
+use lib.ListN.{length, take, drop, replicate}
 use borrow.Author.Tests.{lt-ltb, le-ltb}
+use Rattle.std.specs.List.{starts_with}
+use Rattle.std.proofs.lemmas.Bool.Decides.{Decides-eqb}
+use Rattle.std.proofs.lemmas.Slice.Eq.{slice_eq-Decides}
 use Rattle.model.specs.Computed.{same_list}
 use Rattle.model.proofs.Membership.{same_list_self, same_list_true}
-use Rattle.project.specs.declared.answers.Check.TheVariants.{Passed}
-use Rattle.project.specs.declared.answers.Check.TheVariants.{Refused as Failed}
+use Rattle.std.specs.Prelude.{Ok, Err}
+use Rattle.project.specs.declared.answers.Check.TheVariants.{FileLength, WrongMark, WrongEdition, CacheBlocks, TaskCount}
+use Rattle.project.specs.declared.answers.Refusal.{Refusal}
+use Rattle.project.specs.Checklist.{no_task, refusal}
 use Rattle.project.specs.File.{edition, cache_blocks, reserve}
 use Rattle.project.specs.Reading.{test2, test3, test4, test5, test6, head_check_up_to}
 
@@ -22,6 +26,12 @@ same_test false a b f g = go (same_list a b) (same_list_true a b)
     go : (t : Bool) → (t ≡ true → a ≡ b) → false ≡ t
     go true h = g (h refl)
     go false h = refl
+
+-- whether a list starts with another, as the computed test says it
+pub starts_test : (s p : List ℕ) {r : Bool} → r ≡ starts_with eqb s p → r ≡ same_list (take (length p) s) p
+starts_test s p {r} e =
+    let d = slice_eq-Decides Decides-eqb p (take (length p) s) r e in
+    same_test r (take (length p) s) p (λ t. sym (d.0 t)) (λ t. d.1 (sym t))
 
 -- a number below its lower bound, and one that is not
 pub below : (a b : ℕ) (t : Bool) → a < b → (ltb a b || t) ≡ true
@@ -39,18 +49,7 @@ module _ (s : List ℕ) (k : ℕ) where
   abbrev Reserved : Bool → Type 0
   Reserved r = r ≡ same_list (take (reserve k) (drop 8 s)) (replicate (reserve k) 0)
 
-  -- none in edition 1
-  pub none_reserved : k ≡ 1 → Reserved true
-  none_reserved e = rw e
-
-  -- four in edition 2, which a file of fewer than twelve bytes does not have
-  pub reserve_absent : k ≡ 2 → length s < 12 → Reserved false
-  reserve_absent e h = rw e (go (same_list (take 4 (drop 8 s)) (replicate 4 0)) (same_list_true (take 4 (drop 8 s)) (replicate 4 0)))
-    where
-      go : (t : Bool) → (t ≡ true → take 4 (drop 8 s) ≡ replicate 4 0) → false ≡ t
-      go true f = absurd (omega (arith, ap length (f refl), length-take 4 (drop 8 s), length-drop 8 s))
-      go false f = refl
-
+  -- four in edition 2
   pub four_reserved : k ≡ 2 → {r : Bool} → r ≡ same_list (take 4 (drop 8 s)) (replicate 4 0) → Reserved r
   four_reserved e q = rw e q
 
@@ -67,20 +66,20 @@ module _ (e : ℕ) (s : List ℕ) where
   abbrev pub Past5 : Type 0
   Past5 = Past4 × (test5 (edition s) (cache_blocks s) ≡ false)
 
-  pub at2 : test2 e s ≡ true → head_check_up_to e s ≡ Failed 2 255
-  at2 e2 = rw e2
+  pub at2 : {r : Refusal} → r ≡ refusal FileLength no_task → test2 e s ≡ true → Err r ≡ head_check_up_to e s
+  at2 q e2 = rw (q, e2)
 
-  pub at3 : test2 e s ≡ false → test3 s ≡ true → head_check_up_to e s ≡ Failed 3 255
-  at3 e2 e3 = rw (e2, e3)
+  pub at3 : {r : Refusal} → r ≡ refusal WrongMark no_task → test2 e s ≡ false → test3 s ≡ true → Err r ≡ head_check_up_to e s
+  at3 q e2 e3 = rw (q, e2, e3)
 
-  pub at4 : Past3 → test4 e (edition s) ≡ true → head_check_up_to e s ≡ Failed 4 255
-  at4 (e2, e3) e4 = rw (e2, e3, e4)
+  pub at4 : {r : Refusal} → r ≡ refusal WrongEdition no_task → Past3 → test4 e (edition s) ≡ true → Err r ≡ head_check_up_to e s
+  at4 q (e2, e3) e4 = rw (q, e2, e3, e4)
 
-  pub at5 : Past4 → test5 (edition s) (cache_blocks s) ≡ true → head_check_up_to e s ≡ Failed 5 255
-  at5 ((e2, e3), e4) e5 = rw (e2, e3, e4, e5)
+  pub at5 : {r : Refusal} → r ≡ refusal CacheBlocks no_task → Past4 → test5 (edition s) (cache_blocks s) ≡ true → Err r ≡ head_check_up_to e s
+  at5 q ((e2, e3), e4) e5 = rw (q, e2, e3, e4, e5)
 
-  pub at6 : Past5 → test6 s ≡ true → head_check_up_to e s ≡ Failed 6 255
-  at6 (((e2, e3), e4), e5) e6 = rw (e2, e3, e4, e5, e6)
+  pub at6 : {r : Refusal} → r ≡ refusal TaskCount no_task → Past5 → test6 s ≡ true → Err r ≡ head_check_up_to e s
+  at6 q (((e2, e3), e4), e5) e6 = rw (q, e2, e3, e4, e5, e6)
 
-  pub at_none : Past5 → test6 s ≡ false → head_check_up_to e s ≡ Passed
+  pub at_none : Past5 → test6 s ≡ false → Ok tt ≡ head_check_up_to e s
   at_none (((e2, e3), e4), e5) e6 = rw (e2, e3, e4, e5, e6)

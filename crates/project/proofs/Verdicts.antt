@@ -12,15 +12,12 @@ use borrow.Author.Tests.{eqb-false, ne_eqb, ltb-true, ltb-false, lt-ltb, not-tru
 use Rattle.model.specs.Computed.{same_list}
 use Rattle.model.proofs.Membership.{or_cases, or_left, or_right, same_list_self, same_list_true}
 use Rattle.body.proofs.BlockParts.{all_take, all_drop}
-use Rattle.project.specs.declared.answers.Check.{Check}
-use Rattle.project.specs.declared.answers.Check.TheVariants.{Passed}
-use Rattle.project.specs.declared.answers.Check.TheVariants.{Refused as Failed}
+use Rattle.std.specs.Prelude.{Ok, Err}
 use Rattle.project.specs.File.{mark, edition, cache_blocks, task_count, reserve, bodies_start, offset_of, size_of, bodies_from, bodies}
 use Rattle.project.specs.Checks.{longest, Fault6, Fault7, body}
-use Rattle.project.specs.Checklist.{Entry, Verdict, numbers, Agreeing, verdict_of}
-use Rattle.project.specs.Reading.{count_test, reserve_test, contents_fit, test7, head_checks_up_to, contents_checks, file_checks_up_to, file_checks, file_check_up_to, pick_reading, reading_up_to}
-use Rattle.project.specs.Filling.{pick_filling}
-use Rattle.project.specs.Verdict.{ReaderVerdict, FillingVerdict}
+use Rattle.project.specs.Checklist.{Verdict, numbers, Agreeing, Checked, answered}
+use Rattle.project.specs.Reading.{count_test, reserve_test, contents_fit, test7, head_checks_up_to, contents_checks, file_checks_up_to, file_checks, file_check_up_to, counts_of, reading_up_to}
+use Rattle.project.specs.Verdict.{ReaderVerdict}
 use Rattle.project.proofs.Checklists.{verdict_exact, agreeing_append}
 use Rattle.project.proofs.ContentsLaws.{contents_exact}
 use Rattle.project.proofs.TaskFaults.{Bytes, tasks_agreeing}
@@ -115,17 +112,9 @@ file_agreeing s h = file_agreeing_up_to 1 s h
 pub reader_verdict : (e : ℕ) (s : List ℕ) → Bytes s → ReaderVerdict e s (reading_up_to e s)
 reader_verdict e s h = go (file_check_up_to e s) (verdict_exact (file_checks_up_to e s) (file_agreeing_up_to e s h))
   where
-    go : (r : Check) → Verdict (file_checks_up_to e s) r → ReaderVerdict e s (pick_reading r (cache_blocks s) (task_count s))
-    go Passed v = (v, refl, refl)
-    go (Failed c a) v = v
-
--- what a call answers that fills an area or a table
-pub filling_verdict : (es : List Entry) → Agreeing es → FillingVerdict es (pick_filling (verdict_of es))
-filling_verdict es h = go (verdict_of es) (verdict_exact es h)
-  where
-    go : (r : Check) → Verdict es r → FillingVerdict es (pick_filling r)
-    go Passed v = v
-    go (Failed c a) v = v
+    go : (r : Checked) → Verdict (file_checks_up_to e s) r → ReaderVerdict e s (answered r (counts_of s))
+    go (Ok x) v = (v, refl, refl)
+    go (Err r) v = v
 
 -- "Reader checks 2 to 10."; without 10 (document 02, Point 5)
 pub reader_order : (e : ℕ) (s : List ℕ) → numbers (file_checks_up_to e s) ≡ 2 ∷ 3 ∷ 4 ∷ 5 ∷ 6 ∷ 7 ∷ 8 ∷ 9 ∷ []

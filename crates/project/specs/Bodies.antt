@@ -1,14 +1,12 @@
 -- Document 01, "Calls": Body, in calls that read the editions up to e. Definitions only.
-use Rattle.std.specs.Prelude.{Bool, true, false, ◌&&◌, cond, [], ℕ, ltb}
+use Rattle.std.specs.Prelude.{Bool, true, false, ◌&&◌, cond, [], ℕ, ltb, Ok, Err}
 use Rattle.body.specs.Layout.{Body}
-use Rattle.project.specs.declared.answers.Reading.{Reading}
-use Rattle.project.specs.declared.answers.Reading.TheVariants.{Accepted, Refused}
 use Rattle.project.specs.File.{File, task_count, offset_of, size_of, body_of}
-use Rattle.project.specs.Reading.{reading_up_to}
+use Rattle.project.specs.Reading.{Reading, reading_up_to}
 
 abbrev pub accepted : Reading → Bool
-accepted (Accepted n t) = true
-accepted (Refused c a) = false
+accepted (Ok a) = true
+accepted (Err r) = false
 
 -- "an empty part if the file isn't accepted or the task isn't below t"
 abbrev pub has_body : ℕ → File → ℕ → Bool

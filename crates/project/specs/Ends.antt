@@ -1,5 +1,5 @@
 -- Where bodies end in a list of bytes: the layout of what the checks over tasks are handed. Definitions only.
-use Rattle.std.specs.Prelude.{cond, List, [], ◌∷◌, ◌++◌, ℕ, zero, suc, ◌+◌, ◌-◌, ◌≤◌, ◌<◌, length, get_or, take, drop, replicate}
+use Rattle.std.specs.Prelude.{cond, List, [], ◌∷◌, ◌++◌, ℕ, zero, suc, ◌+◌, ◌-◌, ◌≤◌, ◌<◌, length, get_or, take, drop, replicate, Option, Some, None}
 use Rattle.body.specs.Layout.{Body}
 use Rattle.project.specs.File.{File, edition, bodies_start, size_of}
 use Rattle.project.specs.Reading.{contents_fit}
@@ -18,9 +18,9 @@ abbrev pub between : List ℕ → List ℕ → ℕ → ℕ → List Body
 between s ends zero j = []
 between s ends (suc left) j = take (get_or ends (suc j) 0 - get_or ends j 0) (drop (get_or ends j 0) s) ∷ between s ends left (suc j)
 
--- the ends of the bodies of a file of t tasks, if its contents are as they should be; else zeros
-abbrev pub ends_of : File → ℕ → List ℕ
-ends_of s t = cond (contents_fit s t 0 (bodies_start (edition s) t)) (nine (ends_from s t 0 (bodies_start (edition s) t))) (replicate 9 0)
+-- the ends of the bodies of a file of t tasks, if its contents are as they should be
+abbrev pub ends_of : File → ℕ → Option (List ℕ)
+ends_of s t = cond (contents_fit s t 0 (bodies_start (edition s) t)) (Some (nine (ends_from s t 0 (bodies_start (edition s) t)))) None
 
 -- at most eight bodies, each of which ends where or after it begins, within the bytes
 pub record InOrder (s ends : List ℕ) (count : ℕ) : Type 0 where

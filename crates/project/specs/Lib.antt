@@ -5,7 +5,6 @@ pub mod Verdict
 pub mod Reading
 pub mod Bodies
 pub mod Writing
-pub mod Filling
 pub mod Ends
 pub mod Tasks
 pub mod FileE

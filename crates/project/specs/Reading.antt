@@ -1,18 +1,16 @@
 -- Reader: the tests of its checks, the list of them, and its answer, in calls that read the editions up to e. Definitions only; proofs/Verdicts
 -- shows that each test is its fault.
-use Rattle.std.specs.Prelude.{Bool, not, ◌&&◌, ◌||◌, List, [], ◌∷◌, ◌++◌, map, ℕ, zero, suc, ◌+◌, ◌*◌, eqb, ltb, length, get_or, take, drop, replicate}
+use Rattle.std.specs.Prelude.{Bool, not, ◌&&◌, ◌||◌, List, [], ◌∷◌, ◌++◌, map, ℕ, zero, suc, ◌+◌, ◌*◌, eqb, ltb, length, get_or, take, drop, replicate, Result}
 use Rattle.model.specs.Computed.{same_list}
 use Rattle.model.specs.OnPath.{all_on_path}
 use Rattle.body.specs.Layout.{Body}
 use Rattle.body.specs.Decode.{decode, task_of}
 use Rattle.body.specs.Walk.{kept_of}
-use Rattle.project.specs.declared.answers.Check.{Check}
-use Rattle.project.specs.declared.answers.Check.TheVariants.{Passed}
-use Rattle.project.specs.declared.answers.Check.TheVariants.{Refused as Failed}
-use Rattle.project.specs.declared.answers.Reading.{Reading}
-use Rattle.project.specs.declared.answers.Reading.TheVariants.{Accepted, Refused}
+use Rattle.project.specs.declared.answers.Check.TheVariants.{FileLength, WrongMark, WrongEdition, CacheBlocks, TaskCount, WrongContents, BrokenLayout, OffPath}
+use Rattle.project.specs.declared.answers.Accepted.{Accepted}
+use Rattle.project.specs.declared.answers.Refusal.{Refusal}
 use Rattle.project.specs.Checks.{longest, Fault2, Fault3, Fault4, Fault5, Fault6, Fault7, Fault8, Fault9}
-use Rattle.project.specs.Checklist.{Entry, one, each, no_task, Of, verdict_of}
+use Rattle.project.specs.Checklist.{Entry, one, each, no_task, Of, Checked, verdict_of, answered}
 use Rattle.project.specs.File.{File, mark, edition, cache_blocks, task_count, reserve, bodies_start, offset_of, size_of, bodies}
 
 -- ---- the tests of checks 2 to 7
@@ -63,55 +61,59 @@ test9 b = not (all_on_path (task_of (decode b)))
 -- on the bytes ahead of the contents
 abbrev pub head_checks_up_to : ℕ → File → List Entry
 head_checks_up_to e s =
-    one 2 no_task (test2 e s) (Fault2 e s)
-    ∷ one 3 no_task (test3 s) (Fault3 s)
-    ∷ one 4 no_task (test4 e (edition s)) (Fault4 e (edition s))
-    ∷ one 5 no_task (test5 (edition s) (cache_blocks s)) (Fault5 (edition s) (cache_blocks s))
-    ∷ one 6 no_task (test6 s) (Fault6 s)
+    one FileLength no_task (test2 e s) (Fault2 e s)
+    ∷ one WrongMark no_task (test3 s) (Fault3 s)
+    ∷ one WrongEdition no_task (test4 e (edition s)) (Fault4 e (edition s))
+    ∷ one CacheBlocks no_task (test5 (edition s) (cache_blocks s)) (Fault5 (edition s) (cache_blocks s))
+    ∷ one TaskCount no_task (test6 s) (Fault6 s)
     ∷ []
 
 -- on bodies
 abbrev pub task_checks : List Body → List Entry
 task_checks bs =
-    each 8 (map test8 bs) (Of Fault8 [] bs)
-    ∷ each 9 (map test9 bs) (Of Fault9 [] bs)
+    each BrokenLayout (map test8 bs) (Of Fault8 [] bs)
+    ∷ each OffPath (map test9 bs) (Of Fault9 [] bs)
     ∷ []
 
 -- on the contents and the bodies they tell of
 abbrev pub contents_checks : File → List Entry
-contents_checks s = one 7 no_task (test7 s) (Fault7 s) ∷ task_checks (bodies s)
+contents_checks s = one WrongContents no_task (test7 s) (Fault7 s) ∷ task_checks (bodies s)
 
 -- "Reader checks 2 to 10."; document 02, Point 5: "so 10 is never given any more"
 abbrev pub file_checks_up_to : ℕ → File → List Entry
 file_checks_up_to e s = head_checks_up_to e s ++ contents_checks s
 
-abbrev pub head_check_up_to : ℕ → File → Check
+abbrev pub head_check_up_to : ℕ → File → Checked
 head_check_up_to e s = verdict_of (head_checks_up_to e s)
 
-abbrev pub tasks_check : List Body → Check
+abbrev pub tasks_check : List Body → Checked
 tasks_check bs = verdict_of (task_checks bs)
 
-abbrev pub file_check_up_to : ℕ → File → Check
+abbrev pub file_check_up_to : ℕ → File → Checked
 file_check_up_to e s = verdict_of (file_checks_up_to e s)
 
 -- ---- the answer
 
-abbrev pub pick_reading : Check → ℕ → ℕ → Reading
-pick_reading Passed n t = Accepted n t
-pick_reading (Failed c a) n t = Refused c a
+-- what Reader answers: n and t, or the refusal
+abbrev pub Reading : Type 0
+Reading = Result Accepted Refusal
+
+-- the n and t of a file
+abbrev pub counts_of : File → Accepted
+counts_of s = record { n = cache_blocks s; t = task_count s }
 
 abbrev pub reading_up_to : ℕ → File → Reading
-reading_up_to e s = pick_reading (file_check_up_to e s) (cache_blocks s) (task_count s)
+reading_up_to e s = answered (file_check_up_to e s) (counts_of s)
 
 -- ---- in the calls of document 01: "edition isn't 1" is check 4
 
 abbrev pub file_checks : File → List Entry
 file_checks s = file_checks_up_to 1 s
 
-abbrev pub head_check : File → Check
+abbrev pub head_check : File → Checked
 head_check s = head_check_up_to 1 s
 
-abbrev pub file_check : File → Check
+abbrev pub file_check : File → Checked
 file_check s = file_check_up_to 1 s
 
 abbrev pub reading_of : File → Reading

@@ -1,14 +1,11 @@
 -- Document 01, "Calls" and "Numbers of the checks": Writer, of a file in edition k. Definitions only.
-use Rattle.std.specs.Prelude.{◌≢◌, not, List, [], ◌∷◌, ◌++◌, ℕ, ◌+◌, ◌<◌, eqb, ltb, length, take, drop}
+use Rattle.std.specs.Prelude.{◌≢◌, not, List, [], ◌∷◌, ◌++◌, ℕ, ◌+◌, ◌<◌, eqb, ltb, length, take, drop, Result}
 use Rattle.body.specs.Layout.{Body}
-use Rattle.project.specs.declared.answers.Check.{Check}
-use Rattle.project.specs.declared.answers.Check.TheVariants.{Passed}
-use Rattle.project.specs.declared.answers.Check.TheVariants.{Refused as Failed}
-use Rattle.project.specs.declared.answers.Writing.{Writing}
-use Rattle.project.specs.declared.answers.Writing.TheVariants.{Written, Refused}
+use Rattle.project.specs.declared.answers.Check.TheVariants.{CacheBlocks, TaskCount, WrongContents, OutLength}
+use Rattle.project.specs.declared.answers.Refusal.{Refusal}
 use Rattle.project.specs.File.{bodies_start, file_in}
 use Rattle.project.specs.Checks.{Fault5, CountFault}
-use Rattle.project.specs.Checklist.{Entry, one, no_task, verdict_of}
+use Rattle.project.specs.Checklist.{Entry, one, no_task, Checked, verdict_of, answered, left_by}
 use Rattle.project.specs.Reading.{test5, count_test, task_checks}
 
 -- the sum of the lengths
@@ -37,29 +34,25 @@ Fault14 k n s ls out = length out < length (file_in k n (cut s ls))
 -- given any more"
 abbrev pub writer_checks_in : ℕ → ℕ → List ℕ → List ℕ → List ℕ → List Entry
 writer_checks_in k n s ls out =
-    one 5 no_task (test5 k n) (Fault5 k n)
-    ∷ one 6 no_task (count_test (length ls)) (CountFault (length ls))
-    ∷ one 7 no_task (not (eqb (total ls) (length s))) (SumFault s ls)
-    ∷ (task_checks (cut s ls) ++ (one 14 no_task (ltb (length out) (file_length k s ls)) (Fault14 k n s ls out) ∷ []))
+    one CacheBlocks no_task (test5 k n) (Fault5 k n)
+    ∷ one TaskCount no_task (count_test (length ls)) (CountFault (length ls))
+    ∷ one WrongContents no_task (not (eqb (total ls) (length s))) (SumFault s ls)
+    ∷ (task_checks (cut s ls) ++ (one OutLength no_task (ltb (length out) (file_length k s ls)) (Fault14 k n s ls out) ∷ []))
 
-abbrev pub writer_check_in : ℕ → ℕ → List ℕ → List ℕ → List ℕ → Check
+abbrev pub writer_check_in : ℕ → ℕ → List ℕ → List ℕ → List ℕ → Checked
 writer_check_in k n s ls out = verdict_of (writer_checks_in k n s ls out)
 
-abbrev pub pick_writing : Check → ℕ → Writing
-pick_writing Passed l = Written l
-pick_writing (Failed c a) l = Refused c a
+-- what Writer answers: the length that is written, or the refusal
+abbrev pub Writing : Type 0
+Writing = Result ℕ Refusal
 
 -- "it writes the packed file and answers its length"
 abbrev pub writing_in : ℕ → ℕ → List ℕ → List ℕ → List ℕ → Writing
-writing_in k n s ls out = pick_writing (writer_check_in k n s ls out) (file_length k s ls)
-
-abbrev pub pick_out : Check → List ℕ → List ℕ → List ℕ
-pick_out Passed new old = new
-pick_out (Failed c a) new old = old
+writing_in k n s ls out = answered (writer_check_in k n s ls out) (file_length k s ls)
 
 -- "After a refusal .. out list keep their contents .. The writer changes only the bytes it counts."
 abbrev pub out_in : ℕ → ℕ → List ℕ → List ℕ → List ℕ → List ℕ
-out_in k n s ls out = pick_out (writer_check_in k n s ls out) (file_in k n (cut s ls) ++ drop (file_length k s ls) out) out
+out_in k n s ls out = left_by (writer_check_in k n s ls out) (file_in k n (cut s ls) ++ drop (file_length k s ls) out) out
 
 -- ---- in edition 1
 

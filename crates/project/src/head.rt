@@ -4,7 +4,7 @@ ghost use Rattle.model.specs.Computed.{same_list};
 ghost use Rattle.project.specs.File.{mark, edition, reserve, contents_start};
 ghost use Rattle.project.specs.Reading.{head_check, head_check_up_to};
 
-use crate::answers::{Check, refused};
+use crate::answers::{Check, Refusal};
 use cache::numbers::byte_count;
 
 // The four bytes that a file begins with.
@@ -15,10 +15,9 @@ pub const RESERVE: [u8; 4] = [0; 4];
 
 // Whether the file begins with the mark.
 fn marked(file: &[u8]) -> bool
-    requires { 4 ≤ length file.now }
     ensures { result ≡ same_list (take 4 file.now) mark }
 {
-    check::same(&file[0..4], &MARK)
+    file.starts_with(&MARK)
 }
 
 // Where the contents of a file begin, by its edition.
@@ -35,43 +34,37 @@ fn reserved(file: &[u8]) -> bool
     ensures { result ≡ same_list (take (reserve (edition file.now)) (drop 8 file.now))
         (replicate (reserve (edition file.now)) 0) }
 {
-    if file[4] == 1 {
-        return true;
-    }
-    if file.len() < 12 {
-        return false;
-    }
-    check::same(&file[8..12], &RESERVE)
+    file[4] == 1 || file[8..].starts_with(&RESERVE)
 }
 
 // The first of the checks 2 to 6 that fails, in calls that read the editions up to `last`.
-pub fn head_up_to(last: usize, file: &[u8]) -> Check
+pub fn head_up_to(last: usize, file: &[u8]) -> Result<(), Refusal>
     requires { last ≤ 2 }
     ensures { result ≡ head_check_up_to last file.now }
 {
     if file.len() < 8 || 7540 + 4 * last < file.len() {
-        return refused(2);
+        return Err(Check::FileLength.into());
     }
     if !marked(file) {
-        return refused(3);
+        return Err(Check::WrongMark.into());
     }
     let edition = byte_count(file[4]);
     if edition < 1 || last < edition {
-        return refused(4);
+        return Err(Check::WrongEdition.into());
     }
     let n = byte_count(file[5]);
     if n < 1 || 16 * edition < n {
-        return refused(5);
+        return Err(Check::CacheBlocks.into());
     }
     let t = file[6];
     if t < 1 || 8 < t || file[7] != 0 || !reserved(file) {
-        return refused(6);
+        return Err(Check::TaskCount.into());
     }
-    Check::Passed
+    Ok(())
 }
 
 // The first of the checks 2 to 6 that fails, in the calls that read edition 1 only.
-pub fn head(file: &[u8]) -> Check
+pub fn head(file: &[u8]) -> Result<(), Refusal>
     ensures { result ≡ head_check file.now }
 {
     head_up_to(1, file)

@@ -1,6 +1,6 @@
 -- The body of a task of an accepted file: it keeps its layout, and its task is that of the file.
 -- The idea: check 8 passed for each body, and the tasks of a file are those of its bodies.
-use mathlib.Core.Path.{◌≡◌, refl, sym, ap, ap₂, ◌∙◌}
+use mathlib.Core.Path.{◌≡◌, refl, sym, ap, ◌∙◌}
 use mathlib.Core.Bool.{true, false, false≢true}
 use mathlib.Core.List.{List}
 use Prim.Native.Nat.{ℕ, zero, suc, ◌+◌, ◌-◌, ◌≤◌, ◌<◌}
@@ -14,32 +14,31 @@ use Rattle.body.specs.Decode.{decode, task_of}
 use Rattle.body.specs.Walk.{kept_of}
 use Rattle.body.proofs.Decoded.{decoded-bounds}
 use Rattle.body.proofs.WalksParts.{kept-decoded, part_is}
-use Rattle.project.specs.declared.answers.Check.{Check}
-use Rattle.project.specs.declared.answers.Check.TheVariants.{Passed}
-use Rattle.project.specs.declared.answers.Check.TheVariants.{Refused as Failed}
-use Rattle.project.specs.declared.answers.Reading.{Reading}
-use Rattle.project.specs.declared.answers.Reading.TheVariants.{Accepted, Refused}
+use Rattle.std.specs.Prelude.{Ok, Err}
+use Rattle.project.specs.declared.answers.Refusal.{Refusal}
 use Rattle.project.specs.File.{cache_blocks, task_count, offset_of, size_of, body_of, bodies_from, bodies}
 use Rattle.project.specs.Checks.{body}
-use Rattle.project.specs.Reading.{test8, file_check, pick_reading, reading_of}
+use Rattle.project.specs.Reading.{test8, file_check, Reading, counts_of, reading_of}
+use Rattle.project.specs.Checklist.{Checked, answered}
 use Rattle.project.specs.Bodies.{accepted}
 use Rattle.project.specs.Tasks.{tasks_of}
+use Rattle.project.proofs.Checklists.{ok-not-err}
 use Rattle.project.proofs.Accepted.{tasks_kept, passing, accepted-passed}
 use Rattle.project.proofs.RoundTrips.{length-bodies}
 use Rattle.project.proofs.FileRules.{each_at, task_in}
 use Rattle.reader.proofs.ReadLaws.{InFile, body-inside}
 
 -- the reading of an accepted file
-pub reading : (s : List ℕ) → accepted (reading_of s) ≡ true → reading_of s ≡ Accepted (cache_blocks s) (task_count s)
+pub reading : (s : List ℕ) → accepted (reading_of s) ≡ true → reading_of s ≡ Ok (counts_of s)
 reading s h = go (reading_of s) refl
   where
-    go : (r : Reading) → reading_of s ≡ r → reading_of s ≡ Accepted (cache_blocks s) (task_count s)
-    go (Refused c a) e = absurd (false≢true (rw e at h))
-    go (Accepted n t) e = let (q, en, et) = accepted-passed s n t e in e ∙ ap₂ (λ (a b : ℕ). Accepted a b) en et
+    go : (r : Reading) → reading_of s ≡ r → reading_of s ≡ Ok (counts_of s)
+    go (Err r) e = absurd (false≢true (rw e at h))
+    go (Ok a) e = rw (accepted-passed s a e).0
 
 -- a file whose checks pass is accepted
-pub passing_accepted : (s : List ℕ) → file_check s ≡ Passed → accepted (reading_of s) ≡ true
-passing_accepted s e = ap (λ (r : Check). accepted (pick_reading r (cache_blocks s) (task_count s))) e
+pub passing_accepted : (s : List ℕ) → file_check s ≡ Ok tt → accepted (reading_of s) ≡ true
+passing_accepted s e = ap (λ (r : Checked). accepted (answered r (counts_of s))) e
 
 body-from : (s : List ℕ) (left i j : ℕ) → j < left → body (bodies_from s left i) j ≡ body_of s (i + j)
 body-from s zero i j l = absurd (not-suc-le-zero l)
@@ -56,7 +55,7 @@ pub record TaskBody (s : List ℕ) (j : ℕ) : Type 0 where
 pub task-body : (s : List ℕ) → accepted (reading_of s) ≡ true → (j : ℕ) → j < task_count s → TaskBody s j
 task-body s h j l =
     let e = reading s h in
-    let p = passing s (accepted-passed s (cache_blocks s) (task_count s) e).0 in
+    let p = passing s (accepted-passed s (counts_of s) e).0 in
     let at : body (bodies s) j ≡ body_of s j = body-from s (task_count s) 0 j l ∙ ap (body_of s) (zero-add j) in
     let inside : j < length (bodies s) = rw (length-bodies s (task_count s) 0) l in
     let fine = each_at (λ (b : List ℕ). test8 b ≡ false) (bodies s) (tasks_kept (bodies s) p.tasks) j inside in
@@ -94,9 +93,9 @@ pub tasks_long : (s : List ℕ) → length (tasks_of s) ≡ task_count s
 tasks_long s = rw length-map (length-bodies s (task_count s) 0)
 
 -- a file that is refused fails the check that is named
-pub refused_check : (s : List ℕ) {c a : ℕ} → reading_of s ≡ Refused c a → file_check s ≡ Failed c a
-refused_check s {c} {a} e = go (file_check s) refl
+pub refused_check : (s : List ℕ) {r : Refusal} → reading_of s ≡ Err r → file_check s ≡ Err r
+refused_check s {r} e = go (file_check s) refl
   where
-    go : (k : Check) → file_check s ≡ k → file_check s ≡ Failed c a
-    go Passed q = let r : Accepted (cache_blocks s) (task_count s) ≡ Refused c a = rw q at e in let z : ◌≡◌ {A = ℕ} 0 1 = cc in absurd (omega arith)
-    go (Failed d b) q = let r : Refused d b ≡ Refused c a = rw q at e in q ∙ cc
+    go : (k : Checked) → file_check s ≡ k → file_check s ≡ Err r
+    go (Ok x) q = absurd (ok-not-err (rw q at e))
+    go (Err x) q = let told : ◌≡◌ {A = Reading} (Err x) (Err r) = rw q at e in q ∙ cc

@@ -3,7 +3,7 @@
 
 pub mod tasks;
 
-ghost use Rattle.std.specs.Prelude.{◌≡◌, true, ◌+◌, ◌≤◌, ◌<◌, length};
+ghost use Rattle.std.specs.Prelude.{◌≡◌, Ok, true, ◌+◌, ◌≤◌, ◌<◌, length};
 ghost use Rattle.project.specs.File.{task_count, offset_of, size_of, body_of};
 ghost use Rattle.project.specs.Reading.{head_check, reading_of};
 ghost use Rattle.project.specs.Bodies.{accepted, place_start, place_length, body_part};
@@ -12,41 +12,29 @@ ghost use Rattle.project.specs.Tasks.{file_shape};
 use cache::blocks::CacheShape;
 use cache::numbers::{byte_count, count};
 use cache::references::number_at;
-use project::answers::{Check, NO_TASK, Reading};
+use project::answers::{Accepted, Check, Refusal};
 use project::contents::contents;
 use project::head::{contents_start, head};
 use tasks::check_tasks;
 
 // The answer of Reader for a file whose first eight bytes passed their checks: checks 7 to 9.
-pub fn read_bodies(file: &[u8]) -> Reading
-    requires { head_check file.now ≡ Check.Passed }
+pub fn read_bodies(file: &[u8]) -> Result<Accepted, Refusal>
+    requires { head_check file.now ≡ Ok tt }
     ensures { result ≡ reading_of file.now }
 {
     let n = file[5];
     let t = file[6];
-    let found = contents(file, byte_count(t));
-    let ends = found.ends;
-    if found.fit {
-        match check_tasks(file, byte_count(t), ends) {
-            Check::Refused { check, task } => Reading::Refused { check, task },
-            Check::Passed => Reading::Accepted { n, t },
-        }
-    } else {
-        Reading::Refused {
-            check: 7,
-            task: NO_TASK,
-        }
-    }
+    let ends = contents(file, byte_count(t)).ok_or(Check::WrongContents)?;
+    check_tasks(file, byte_count(t), ends)?;
+    Ok(Accepted { n, t })
 }
 
 // Reader: n and t of a file, or the check that it fails first.
-pub fn read(file: &[u8]) -> Reading
+pub fn read(file: &[u8]) -> Result<Accepted, Refusal>
     ensures { result ≡ reading_of file.now }
 {
-    match head(file) {
-        Check::Refused { check, task } => Reading::Refused { check, task },
-        Check::Passed => read_bodies(file),
-    }
+    head(file)?;
+    read_bodies(file)
 }
 
 // The cache of an accepted file.
@@ -100,14 +88,8 @@ pub fn place(file: &[u8], task: usize) -> BodyPlace
     ensures { (result.start ≡ place_start 1 file.now task) × (result.length ≡ place_length 1 file.now task) }
 {
     match read(file) {
-        Reading::Refused { check: _, task: _ } => NOWHERE,
-        Reading::Accepted { n: _, t } => {
-            if task < byte_count(t) {
-                entry(file, task)
-            } else {
-                NOWHERE
-            }
-        }
+        Ok(accepted) if task < byte_count(accepted.t) => entry(file, task),
+        _ => NOWHERE,
     }
 }
 

@@ -1,13 +1,13 @@
 // Checks 8 and 9 over bodies that stand one after the other in a list of bytes.
-ghost use Rattle.std.specs.Prelude.{◌≡◌, map, ◌<◌};
+ghost use Rattle.std.specs.Prelude.{◌≡◌, Bool, List, map, ℕ, ◌<◌};
 ghost use Rattle.project.specs.Checklist.{lowest};
 ghost use Rattle.project.specs.Reading.{test8, test9, tasks_check};
 ghost use Rattle.project.specs.Ends.{InOrder, between};
-ghost use Rattle.reader.specs.Tests.{test_of};
+ghost use Rattle.reader.specs.Tests.{Tests};
 
 use body::jumps::on_paths;
 use body::walk;
-use project::answers::Check;
+use project::answers::{Check, Refusal};
 
 // Check 8 of one body.
 fn breaks_layout(body: &[u8]) -> bool
@@ -36,42 +36,34 @@ pub fn task_byte(j: usize) -> u8
     j as u8
 }
 
-// Check 8 or 9 of one body.
-fn at_fault(check: u8, body: &[u8]) -> bool
-    ensures { result ≡ test_of check body.now }
-{
-    if check == 8 {
-        return breaks_layout(body);
-    }
-    off_path(body)
-}
-
-// Check 8 or 9: the lowest task whose body breaks its layout, or with a block on no complete path.
-fn first_at_fault(check: u8, bytes: &[u8], count: usize, ends: [usize; 9]) -> Check
-    requires { InOrder bytes.now ends count }
-    ensures { result ≡ lowest check 0 (map (test_of check) (between bytes.now ends count 0)) }
+// One check over bodies, by its test of a body: the lowest task whose body is at fault.
+fn first_at_fault<F: Fn(&[u8]) -> bool>(
+    check: Check,
+    bytes: &[u8],
+    count: usize,
+    ends: [usize; 9],
+    at_fault: F,
+) -> Result<(), Refusal>
+    requires in_order { InOrder bytes.now ends count }
+    requires callable { F.IsAlwaysCallable at_fault }
+    ensures { (test : List ℕ → Bool) → Tests F.Fn at_fault test → result ≡ lowest check 0 (map test (between bytes.now ends count 0)) }
 {
     for j in 0..count {
-        let from = ends[j];
-        let to = ends[j + 1];
-        if at_fault(check, &bytes[from..to]) {
-            return Check::Refused {
+        if at_fault(&bytes[ends[j]..ends[j + 1]]) {
+            return Err(Refusal {
                 check,
                 task: task_byte(j),
-            };
+            });
         }
     }
-    Check::Passed
+    Ok(())
 }
 
 // Checks 8 and 9, the first for all tasks before the second.
-pub fn check_tasks(bytes: &[u8], count: usize, ends: [usize; 9]) -> Check
+pub fn check_tasks(bytes: &[u8], count: usize, ends: [usize; 9]) -> Result<(), Refusal>
     requires { InOrder bytes.now ends count }
     ensures { result ≡ tasks_check (between bytes.now ends count 0) }
 {
-    let broken = first_at_fault(8, bytes, count, ends);
-    if let Check::Passed = broken {
-        return first_at_fault(9, bytes, count, ends);
-    }
-    broken
+    first_at_fault(Check::BrokenLayout, bytes, count, ends, breaks_layout)?;
+    first_at_fault(Check::OffPath, bytes, count, ends, off_path)
 }

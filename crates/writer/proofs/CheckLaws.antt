@@ -8,17 +8,20 @@ use native.Mathlib.Omega.{arith}
 use lib.Dec.{eqb, ltb}
 use lib.ListN.{length, drop}
 use borrow.Author.Tests.{eqb-true, ltb-false, lt-ltb, le-ltb, not-false}
-use Rattle.project.specs.declared.answers.Check.{Check}
-use Rattle.project.specs.declared.answers.Check.TheVariants.{Passed}
-use Rattle.project.specs.declared.answers.Check.TheVariants.{Refused as Failed}
-use Rattle.project.specs.declared.answers.Writing.TheVariants.{Written, Refused}
+use Rattle.std.specs.Prelude.{Ok, Err}
+use Rattle.project.specs.declared.answers.Check.TheVariants.{CacheBlocks, TaskCount, WrongContents, OutLength}
+use Rattle.project.specs.declared.answers.Refusal.{Refusal}
 use Rattle.project.specs.File.{file_in}
-use Rattle.project.specs.Checklist.{one, no_task, and_then, unless}
+use Rattle.project.specs.Checklist.{one, no_task, refusal, Checked, and_then, unless}
 use Rattle.project.specs.Reading.{test5, count_test, task_checks, tasks_check}
-use Rattle.project.specs.Writing.{total, cut, file_length, Fault14, writer_check_in, writing_in, out_in}
+use Rattle.project.specs.Writing.{Writing, total, cut, file_length, Fault14, writer_check_in, writing_in, out_in}
 use Rattle.project.proofs.Checklists.{then_none, verdict_append}
 use Rattle.project.proofs.Accepted.{unless-passed, then_passed, or_false_left, or_false_right, tasks_kept, joined-long}
 use Rattle.writer.proofs.PutLaws.{length_cut, joined-cut}
+
+-- that many bytes written, as an answer
+abbrev pub written : ℕ → Writing
+written l = Ok l
 
 -- ---- the checks
 
@@ -32,33 +35,33 @@ module _ (k n : ℕ) (s ls out : List ℕ) where
 
   -- the checks by their parts
   pub writer_parts : writer_check_in k n s ls out
-      ≡ and_then (unless 5 no_task (test5 k n)) (and_then (unless 6 no_task (count_test (length ls))) (and_then (unless 7 no_task (not (eqb (total ls) (length s))))
-      (and_then (tasks_check (cut s ls)) (unless 14 no_task (ltb (length out) (file_length k s ls))))))
+      ≡ and_then (unless CacheBlocks no_task (test5 k n)) (and_then (unless TaskCount no_task (count_test (length ls))) (and_then (unless WrongContents no_task (not (eqb (total ls) (length s))))
+      (and_then (tasks_check (cut s ls)) (unless OutLength no_task (ltb (length out) (file_length k s ls))))))
   writer_parts =
-      ap (λ (r : Check). and_then (unless 5 no_task (test5 k n)) (and_then (unless 6 no_task (count_test (length ls))) (and_then (unless 7 no_task (not (eqb (total ls) (length s)))) r)))
-      (verdict_append (task_checks (cut s ls)) (one 14 no_task (ltb (length out) (file_length k s ls)) (Fault14 k n s ls out) ∷ [])
-      ∙ ap (and_then (tasks_check (cut s ls))) (then_none (unless 14 no_task (ltb (length out) (file_length k s ls)))))
+      ap (λ (r : Checked). and_then (unless CacheBlocks no_task (test5 k n)) (and_then (unless TaskCount no_task (count_test (length ls))) (and_then (unless WrongContents no_task (not (eqb (total ls) (length s)))) r)))
+      (verdict_append (task_checks (cut s ls)) (one OutLength no_task (ltb (length out) (file_length k s ls)) (Fault14 k n s ls out) ∷ [])
+      ∙ ap (and_then (tasks_check (cut s ls))) (then_none (unless OutLength no_task (ltb (length out) (file_length k s ls)))))
 
-  pub at5 : test5 k n ≡ true → writer_check_in k n s ls out ≡ Failed 5 255
-  at5 e5 = rw e5
+  pub at5 : {r : Refusal} → r ≡ refusal CacheBlocks no_task → test5 k n ≡ true → Err r ≡ writer_check_in k n s ls out
+  at5 q e5 = rw (q, e5)
 
-  pub at6 : test5 k n ≡ false → count_test (length ls) ≡ true → writer_check_in k n s ls out ≡ Failed 6 255
-  at6 e5 e6 = rw (e5, e6)
+  pub at6 : {r : Refusal} → r ≡ refusal TaskCount no_task → test5 k n ≡ false → count_test (length ls) ≡ true → Err r ≡ writer_check_in k n s ls out
+  at6 q e5 e6 = rw (q, e5, e6)
 
-  pub at7 : Past6 → eqb (total ls) (length s) ≡ false → writer_check_in k n s ls out ≡ Failed 7 255
-  at7 (e5, e6) e7 = rw (e5, e6, e7)
+  pub at7 : {r : Refusal} → r ≡ refusal WrongContents no_task → Past6 → eqb (total ls) (length s) ≡ false → Err r ≡ writer_check_in k n s ls out
+  at7 q (e5, e6) e7 = rw (q, e5, e6, e7)
 
-  pub at_tasks : Past7 → {c a : ℕ} → tasks_check (cut s ls) ≡ Failed c a → writer_check_in k n s ls out ≡ Failed c a
-  at_tasks ((e5, e6), e7) e = writer_parts ∙ rw (e5, e6, e7, e)
+  pub at_tasks : Past7 → {r : Refusal} → tasks_check (cut s ls) ≡ Err r → Err r ≡ writer_check_in k n s ls out
+  at_tasks ((e5, e6), e7) e = sym (writer_parts ∙ rw (e5, e6, e7, e))
 
-  pub at14 : Past7 → tasks_check (cut s ls) ≡ Passed → length out < file_length k s ls → writer_check_in k n s ls out ≡ Failed 14 255
-  at14 ((e5, e6), e7) e h = writer_parts ∙ rw (e5, e6, e7, e, lt-ltb (length out) (file_length k s ls) h)
+  pub at14 : {r : Refusal} → r ≡ refusal OutLength no_task → Past7 → tasks_check (cut s ls) ≡ Ok tt → length out < file_length k s ls → Err r ≡ writer_check_in k n s ls out
+  at14 q ((e5, e6), e7) e h = rw q (sym (writer_parts ∙ rw (e5, e6, e7, e, lt-ltb (length out) (file_length k s ls) h)))
 
-  pub at_none : Past7 → tasks_check (cut s ls) ≡ Passed → file_length k s ls ≤ length out → writer_check_in k n s ls out ≡ Passed
+  pub at_none : Past7 → tasks_check (cut s ls) ≡ Ok tt → file_length k s ls ≤ length out → writer_check_in k n s ls out ≡ Ok tt
   at_none ((e5, e6), e7) e h = writer_parts ∙ rw (e5, e6, e7, e, le-ltb (length out) (file_length k s ls) h)
 
   -- eight bodies that pass are short
-  tasks_short : Past7 → length ls ≤ 8 → tasks_check (cut s ls) ≡ Passed → length s ≤ 7504
+  tasks_short : Past7 → length ls ≤ 8 → tasks_check (cut s ls) ≡ Ok tt → length s ≤ 7504
   tasks_short (p, e7) few ok =
       let kept = tasks_kept (cut s ls) ok in
       omega (arith, joined-long (cut s ls) kept, length_cut s ls, ap length (joined-cut s ls (eqb-true (total ls) (length s) e7)))
@@ -69,17 +72,17 @@ module _ (k n : ℕ) (s ls out : List ℕ) where
     pub some : 1 ≤ length ls
     pub few : length ls ≤ 8
     pub sum : total ls ≡ length s
-    pub tasks : tasks_check (cut s ls) ≡ Passed
+    pub tasks : tasks_check (cut s ls) ≡ Ok tt
     pub short : length s ≤ 7504
     pub room : file_length k s ls ≤ length out
 
-  pub all-passed : writer_check_in k n s ls out ≡ Passed → AllPassed
+  pub all-passed : writer_check_in k n s ls out ≡ Ok tt → AllPassed
   all-passed e =
-      let (t5, e6) = unless-passed 5 no_task (test5 k n) _ (sym writer_parts ∙ e) in
-      let (t6, e7) = unless-passed 6 no_task (count_test (length ls)) _ e6 in
-      let (t7, e8) = unless-passed 7 no_task (not (eqb (total ls) (length s))) _ e7 in
+      let (t5, e6) = unless-passed CacheBlocks no_task (test5 k n) _ (sym writer_parts ∙ e) in
+      let (t6, e7) = unless-passed TaskCount no_task (count_test (length ls)) _ e6 in
+      let (t7, e8) = unless-passed WrongContents no_task (not (eqb (total ls) (length s))) _ e7 in
       let (ok, p14) = then_passed (tasks_check (cut s ls)) _ e8 in
-      let t14 = (unless-passed 14 no_task (ltb (length out) (file_length k s ls)) Passed (then_none (unless 14 no_task (ltb (length out) (file_length k s ls))) ∙ p14)).0 in
+      let t14 = (unless-passed OutLength no_task (ltb (length out) (file_length k s ls)) (Ok tt) (then_none (unless OutLength no_task (ltb (length out) (file_length k s ls))) ∙ p14)).0 in
       let fit = not-false (eqb (total ls) (length s)) t7 in
       let past : Past7 = ((t5, t6), fit) in
       let few = ltb-false 8 (length ls) (or_false_right (ltb (length ls) 1) (ltb 8 (length ls)) t6) in
@@ -95,9 +98,10 @@ module _ (k n : ℕ) (s ls out : List ℕ) where
 
   -- ---- the two answers
 
-  pub answer-refused : {c a : ℕ} → writer_check_in k n s ls out ≡ Failed c a → (Refused c a ≡ writing_in k n s ls out) × (out ≡ out_in k n s ls out)
-  answer-refused e = (rw e, rw e)
+  pub answer-refused : {r : Refusal} {answer : Writing} → writer_check_in k n s ls out ≡ Err r → answer ≡ Err r
+      → (answer ≡ writing_in k n s ls out) × (out ≡ out_in k n s ls out)
+  answer-refused e q = (rw e q, rw e)
 
-  pub answer_written : {l : ℕ} {new : List ℕ} → writer_check_in k n s ls out ≡ Passed → l ≡ file_length k s ls → new ≡ file_in k n (cut s ls) ++ drop (file_length k s ls) out
-      → (Written l ≡ writing_in k n s ls out) × (new ≡ out_in k n s ls out)
-  answer_written e z q = (rw e (ap Written z), rw e q)
+  pub answer_written : {l : ℕ} {new : List ℕ} → writer_check_in k n s ls out ≡ Ok tt → l ≡ file_length k s ls → new ≡ file_in k n (cut s ls) ++ drop (file_length k s ls) out
+      → (Ok l ≡ writing_in k n s ls out) × (new ≡ out_in k n s ls out)
+  answer_written e z q = (rw e (ap (written) z), rw e q)

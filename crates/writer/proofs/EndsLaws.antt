@@ -1,7 +1,7 @@
 -- The ends that the writer works out cut the joined bodies at their lengths.
 -- The idea: each end is the sum of the lengths up to it.
 use mathlib.Core.Path.{◌≡◌, refl, sym, ap, ap₂, ◌∙◌}
-use mathlib.Core.Bool.{true, false}
+use mathlib.Core.Bool.{Bool, true, false}
 use mathlib.Core.List.{List, [], ◌∷◌}
 use Prim.Native.Nat.{ℕ, zero, suc, ◌+◌, ◌-◌, ◌≤◌, ◌<◌}
 use native.Mathlib.Nat.{not-suc-le-zero}
@@ -11,9 +11,10 @@ use lib.Dec.{eqb}
 use lib.ListN.{length, get_or, take, drop, replicate, drop_of_length-le}
 use lib.Seq.{drop-cons, drop-drop}
 use borrow.Author.Tests.{eqb-true, ne_eqb}
+use Rattle.std.specs.Prelude.{Some, None}
 use Rattle.project.specs.Ends.{nine, between, InOrder}
 use Rattle.project.specs.Writing.{total, cut}
-use Rattle.project.proofs.ContentsLaws.{nine-at}
+use Rattle.project.proofs.ContentsLaws.{nine-at, none_not_some}
 use Rattle.writer.specs.Pieces.{sums, cut_ends}
 
 -- ---- the list of sums
@@ -46,38 +47,55 @@ pub sums_start : (ls : List ℕ) → replicate 9 0 ≡ nine (take (0 + 1) (sums 
 sums_start [] = refl
 sums_start (l ∷ ls) = refl
 
-pub answer_fit : (s ls : List ℕ) {ends : List ℕ} → eqb (total ls) (length s) ≡ true → ends ≡ nine (sums 0 ls)
-    → (true ≡ eqb (total ls) (length s)) × (ends ≡ cut_ends s ls)
-answer_fit s ls e q = (sym e, rw e q)
+pub answer_fit : (s ls : List ℕ) {ends : List ℕ} → eqb (total ls) (length s) ≡ true → ends ≡ nine (sums 0 ls) → Some ends ≡ cut_ends s ls
+answer_fit s ls e q = rw (e, q)
 
-pub answer-none : (s ls : List ℕ) → (total ls ≡ length s → ⊥) → (false ≡ eqb (total ls) (length s)) × (replicate 9 0 ≡ cut_ends s ls)
-answer-none s ls h = let e = ne_eqb (total ls) (length s) h in (sym e, rw e)
+pub answer-none : (s ls : List ℕ) → (total ls ≡ length s → ⊥) → None ≡ cut_ends s ls
+answer-none s ls h = rw (ne_eqb (total ls) (length s) h)
+
+-- ends that were found, and that none were
+pub found-fit : (s ls : List ℕ) {ends : List ℕ} → cut_ends s ls ≡ Some ends → (eqb (total ls) (length s) ≡ true) × (ends ≡ nine (sums 0 ls))
+found-fit s ls {ends} e = go (eqb (total ls) (length s)) refl
+  where
+    go : (b : Bool) → eqb (total ls) (length s) ≡ b → (eqb (total ls) (length s) ≡ true) × (ends ≡ nine (sums 0 ls))
+    go true q = let told : Some (nine (sums 0 ls)) ≡ Some ends = rw q at e in (q, cc)
+    go false q = absurd (none_not_some (rw q at e))
+
+pub none-fit : (s ls : List ℕ) → cut_ends s ls ≡ None → eqb (total ls) (length s) ≡ false
+none-fit s ls e = go (eqb (total ls) (length s)) refl
+  where
+    go : (b : Bool) → eqb (total ls) (length s) ≡ b → eqb (total ls) (length s) ≡ false
+    go true q = absurd (none_not_some (sym (rw q at e)))
+    go false q = q
 
 -- ---- what lies between the ends
 
 module _ (s ls : List ℕ) (few : length ls ≤ 8) (fit : eqb (total ls) (length s) ≡ true) where
-  end-at : (j : ℕ) → j ≤ length ls → get_or (cut_ends s ls) j 0 ≡ get_or (sums 0 ls) j 0
-  end-at j h = rw fit (nine-at (sums 0 ls) j (rw (length-sums 0 ls) (omega arith)))
+  abbrev ends : List ℕ
+  ends = nine (sums 0 ls)
 
-  end-next : (j : ℕ) → j < length ls → get_or (cut_ends s ls) (suc j) 0 ≡ get_or (cut_ends s ls) j 0 + get_or ls j 0
+  end-at : (j : ℕ) → j ≤ length ls → get_or (ends) j 0 ≡ get_or (sums 0 ls) j 0
+  end-at j h = nine-at (sums 0 ls) j (rw (length-sums 0 ls) (omega arith))
+
+  end-next : (j : ℕ) → j < length ls → get_or (ends) (suc j) 0 ≡ get_or (ends) j 0 + get_or ls j 0
   end-next j h = end-at (suc j) h ∙ sums_next 0 ls j h ∙ ap (λ x. x + get_or ls j 0) (sym (end-at j (omega arith)))
 
-  pub cut-order : InOrder s (cut_ends s ls) (length ls)
+  pub cut-order : InOrder s (ends) (length ls)
   cut-order = record {
     few = few;
     rise = λ j h. omega (arith, end-next j h);
     within = λ j h. omega (arith, end-at (suc j) h, sums-within 0 ls (suc j) h, eqb-true (total ls) (length s) fit);
   }
 
-  between-from : (left j : ℕ) → left + j ≡ length ls → between s (cut_ends s ls) left j ≡ cut (drop (get_or (cut_ends s ls) j 0) s) (drop j ls)
+  between-from : (left j : ℕ) → left + j ≡ length ls → between s (ends) left j ≡ cut (drop (get_or (ends) j 0) s) (drop j ls)
   between-from zero j e = rw (drop_of_length-le ls {i = j} (omega arith))
   between-from (suc left) j e =
-      let size : get_or (cut_ends s ls) (suc j) 0 - get_or (cut_ends s ls) j 0 ≡ get_or ls j 0 = omega (arith, end-next j (omega arith)) in
-      let next : drop (get_or (cut_ends s ls) (suc j) 0) s ≡ drop (get_or ls j 0) (drop (get_or (cut_ends s ls) j 0) s)
-      = ap (λ k. drop k s) (end-next j (omega arith)) ∙ sym (drop-drop (get_or ls j 0) (get_or (cut_ends s ls) j 0) s) in
+      let size : get_or (ends) (suc j) 0 - get_or (ends) j 0 ≡ get_or ls j 0 = omega (arith, end-next j (omega arith)) in
+      let next : drop (get_or (ends) (suc j) 0) s ≡ drop (get_or ls j 0) (drop (get_or (ends) j 0) s)
+      = ap (λ k. drop k s) (end-next j (omega arith)) ∙ sym (drop-drop (get_or ls j 0) (get_or (ends) j 0) s) in
       rw (drop-cons ls j 0 (omega arith))
-      (ap₂ (λ (b : List ℕ) (bs : List (List ℕ)). b ∷ bs) (ap (λ k. take k (drop (get_or (cut_ends s ls) j 0) s)) size)
+      (ap₂ (λ (b : List ℕ) (bs : List (List ℕ)). b ∷ bs) (ap (λ k. take k (drop (get_or (ends) j 0) s)) size)
       (between-from left (suc j) (omega arith) ∙ ap (λ x. cut x (drop (suc j) ls)) next))
 
-  pub between-cut : between s (cut_ends s ls) (length ls) 0 ≡ cut s ls
+  pub between-cut : between s (ends) (length ls) 0 ≡ cut s ls
   between-cut = between-from (length ls) 0 (omega arith) ∙ ap (λ k. cut (drop k s) ls) (end-at 0 (omega arith) ∙ sums_first 0 ls)

@@ -11,13 +11,12 @@ use lib.Dec.{eqb, ltb}
 use lib.ListN.{length}
 use borrow.Author.Tests.{eqb-true, eqb-false, ltb-true, lt-ltb}
 use Rattle.body.proofs.BlockParts.{all_take, all_drop}
-use Rattle.project.specs.declared.answers.Check.{Check}
-use Rattle.project.specs.declared.answers.Check.TheVariants.{Passed}
-use Rattle.project.specs.declared.answers.Check.TheVariants.{Refused as Failed}
+use Rattle.std.specs.Prelude.{Ok, Err}
+use Rattle.project.specs.declared.answers.Check.TheVariants.{OutLength}
 use Rattle.project.specs.Checks.{body}
-use Rattle.project.specs.Checklist.{one, no_task, numbers, Verdict, Agreeing}
+use Rattle.project.specs.Checklist.{one, no_task, numbers, Verdict, Agreeing, Checked, answered}
 use Rattle.project.specs.Reading.{task_checks}
-use Rattle.project.specs.Writing.{total, cut, file_length, SumFault, Fault14, writer_checks_in, writer_check_in, pick_writing, writing_in}
+use Rattle.project.specs.Writing.{total, cut, file_length, SumFault, Fault14, writer_checks_in, writer_check_in, writing_in}
 use Rattle.project.specs.Verdict.{WriterVerdict}
 use Rattle.project.proofs.Checklists.{verdict_exact, agreeing_append}
 use Rattle.project.proofs.TaskFaults.{Bytes, tasks_agreeing}
@@ -53,7 +52,7 @@ module _ (k n : ℕ) (s ls out : List ℕ) (some : 1 ≤ k) where
       λ p6. (
         differ_exact (total ls) (length s),
         λ p7. agreeing_append (task_checks (cut s ls))
-            (one 14 no_task (ltb (length out) (file_length k s ls)) (Fault14 k n s ls out) ∷ []) (tasks_agreeing (cut s ls) (cut_bytes s ls h))
+            (one OutLength no_task (ltb (length out) (file_length k s ls)) (Fault14 k n s ls out) ∷ []) (tasks_agreeing (cut s ls) (cut_bytes s ls h))
             (λ p9. (exact14 (sum-right p7), λ p14. tt)),
       ),
     ),
@@ -63,9 +62,9 @@ module _ (k n : ℕ) (s ls out : List ℕ) (some : 1 ≤ k) where
   pub writer_verdict : Bytes s → WriterVerdict k n s ls out (writing_in k n s ls out)
   writer_verdict h = go (writer_check_in k n s ls out) refl (verdict_exact (writer_checks_in k n s ls out) (writer_agreeing h))
     where
-      go : (r : Check) → writer_check_in k n s ls out ≡ r → Verdict (writer_checks_in k n s ls out) r → WriterVerdict k n s ls out (pick_writing r (file_length k s ls))
-      go Passed e v = (v, sym (length_written k n s ls out some (all-passed k n s ls out e).sum))
-      go (Failed c a) e v = v
+      go : (r : Checked) → writer_check_in k n s ls out ≡ r → Verdict (writer_checks_in k n s ls out) r → WriterVerdict k n s ls out (answered r (file_length k s ls))
+      go (Ok x) e v = (v, sym (length_written k n s ls out some (all-passed k n s ls out e).sum))
+      go (Err x) e v = v
 
   -- "Writer checks 5, 6 .., 7 .., 8, 9, 10, 14."; without 10 (document 02, Point 5)
   pub writer_order : numbers (writer_checks_in k n s ls out) ≡ 5 ∷ 6 ∷ 7 ∷ 8 ∷ 9 ∷ 14 ∷ []

@@ -1,5 +1,5 @@
 -- What the pieces of the writer work out: the contents from the lengths, and where the bodies end. Definitions only.
-use Rattle.std.specs.Prelude.{cond, List, [], ◌∷◌, ◌++◌, ℕ, ◌+◌, eqb, length, replicate}
+use Rattle.std.specs.Prelude.{cond, List, [], ◌∷◌, ◌++◌, ℕ, ◌+◌, eqb, length, Option, Some, None}
 use Rattle.body.specs.Layout.{two_bytes}
 use Rattle.project.specs.Ends.{nine}
 use Rattle.project.specs.Writing.{total}
@@ -14,6 +14,6 @@ abbrev pub sums : ℕ → List ℕ → List ℕ
 sums at [] = at ∷ []
 sums at (l ∷ ls) = at ∷ sums (at + l) ls
 
--- the ends of the joined bodies, if their lengths sum up to the joined length; else zeros
-abbrev pub cut_ends : List ℕ → List ℕ → List ℕ
-cut_ends s ls = cond (eqb (total ls) (length s)) (nine (sums 0 ls)) (replicate 9 0)
+-- the ends of the joined bodies, if their lengths sum up to the joined length
+abbrev pub cut_ends : List ℕ → List ℕ → Option (List ℕ)
+cut_ends s ls = cond (eqb (total ls) (length s)) (Some (nine (sums 0 ls))) None

@@ -1,32 +1,23 @@
 // Check 7 of the writer, and where the bodies end in the joined bodies.
-ghost use Rattle.std.specs.Prelude.{◌≡◌, ◌≤◌, eqb, length};
-ghost use Rattle.project.specs.Writing.{total};
+ghost use Rattle.std.specs.Prelude.{◌≡◌, ◌≤◌, length};
 ghost use Rattle.writer.specs.Pieces.{cut_ends};
 
-use project::contents::BodyEnds;
-
-// Whether the lengths sum up to the joined length, and then where the bodies begin and end. No sum passes the joined length.
-pub fn ends_of(bodies: &[u8], lengths: &[usize]) -> BodyEnds
+// Where the bodies begin and end, if their lengths sum up to the joined length. No sum passes the joined length.
+pub fn ends_of(bodies: &[u8], lengths: &[usize]) -> Option<[usize; 9]>
     requires { length lengths.now ≤ 8 }
-    ensures { (result.fit ≡ eqb (total lengths.now) (length bodies.now))
-        × (result.ends ≡ cut_ends bodies.now lengths.now) }
+    ensures { result ≡ cut_ends bodies.now lengths.now }
 {
-    let none = BodyEnds {
-        fit: false,
-        ends: [0; 9],
-    };
     let mut sum = 0;
     let mut ends = [0; 9];
-    for j in 0..lengths.len() {
-        let length = lengths[j];
+    for (j, &length) in lengths.iter().enumerate() {
         if bodies.len() - sum < length {
-            return none;
+            return None;
         }
         sum += length;
         ends[j + 1] = sum;
     }
     if sum != bodies.len() {
-        return none;
+        return None;
     }
-    BodyEnds { fit: true, ends }
+    Some(ends)
 }

@@ -7,4 +7,4 @@ use Rattle.reader.proofs.file_shape.Goals as goal
 pub bounds-file-5 : goal.bounds-file-5
 bounds-file-5 c =
     let s = c.args.file.now in
-    omega (arith, (passing s (accepted-passed s _ _ (reading s c.requires)).0).long)
+    omega (arith, (passing s (accepted-passed s _ (reading s c.requires)).0).long)

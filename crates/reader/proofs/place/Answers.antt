@@ -7,21 +7,17 @@ use Rattle.reader.proofs.place.Goals as goal
 
 pub entry-requires : goal.entry-requires
 entry-requires c =
-    let start = c in
-    let e = sym c.read.ensures ∙ c.in-Accepted.is in
-    (ap accepted e, (body-inside start.args.file.now e start.args.task (omega (arith, c.if-task-byte_count.true, c.byte_count.ensures))).below)
+    let e = sym c.read.ensures ∙ c.in-Ok.is in
+    (ap accepted e, (body-inside c.args.file.now e c.args.task (omega (arith, c.if-task-byte_count.true, c.byte_count.ensures))).below)
 
-pub returns-in-Refused : goal.returns-in-Refused
-returns-in-Refused c = place-refused 1 c.args.file.now c.args.task (sym c.read.ensures ∙ c.in-Refused.is)
+pub returns-in-Ok : goal.returns-in-Ok
+returns-in-Ok c =
+    place-there 1 c.args.file.now c.args.task (sym c.read.ensures ∙ c.in-Ok.is)
+    (omega (arith, c.if-task-byte_count.true, c.byte_count.ensures)) c.entry.ensures.0 c.entry.ensures.1
 
-pub returns-then-task-byte_count : goal.returns-then-task-byte_count
-returns-then-task-byte_count c =
-    let then = c in
-    let start = then in
-    place-there 1 start.args.file.now start.args.task (sym then.read.ensures ∙ then.in-Accepted.is)
-    (omega (arith, then.if-task-byte_count.true, then.byte_count.ensures)) c.entry.ensures.0 c.entry.ensures.1
+pub returns-in_default : goal.returns-in_default
+returns-in_default c =
+    place-above 1 c.args.file.now c.args.task (sym c.read.ensures ∙ c.in-Ok.is) (omega (arith, c.if-task-byte_count.false, c.byte_count.ensures))
 
-pub returns-else-task-byte_count : goal.returns-else-task-byte_count
-returns-else-task-byte_count c =
-    let start = c in
-    place-above 1 start.args.file.now start.args.task (sym c.read.ensures ∙ c.in-Accepted.is) (omega (arith, c.if-task-byte_count.false, c.byte_count.ensures))
+pub returns-in_default-2 : goal.returns-in_default-2
+returns-in_default-2 c = place-refused 1 c.args.file.now c.args.task (sym c.read.ensures ∙ c.in_default.is)

@@ -30,34 +30,32 @@ past5 c =
     (((grind (arith, nat_tests), e), grind (arith, nat_tests, k)), grind (arith, nat_tests, k, n))
 
 pub returns-then-file-lt8 : goal.returns-then-file-lt8
-returns-then-file-lt8 c = c.refused.ensures ∙ sym (at2 c.args.last c.args.file.now (elim c.then-file-lt8.branch [
+returns-then-file-lt8 c = at2 c.args.last c.args.file.now c.into.ensures (elim c.then-file-lt8.branch [
   | then-file-lt8-via-then-file-lt8 w ↦ grind (arith, nat_tests, w.if-file-lt8.true)
   | then-file-lt8-via-else-file-lt8+then-last-file w ↦ grind (arith, nat_tests, w.if-last-file.true)
-]))
+])
 
 pub returns-then-not-marked : goal.returns-then-not-marked
 returns-then-not-marked c =
     let t = ap not (sym c.marked.ensures) ∙ ap not c.if-not-marked.true in
-    c.refused-then-not-marked.ensures ∙ sym (at3 c.args.last c.args.file.now (past2 (goal.at.returns-then-not-marked c).Else-last-file) t)
+    at3 c.args.last c.args.file.now c.into-then-not-marked.ensures (past2 (goal.at.returns-then-not-marked c).Else-last-file) t
 
 pub returns-then-edition-lt1 : goal.returns-then-edition-lt1
 returns-then-edition-lt1 c =
     let k = c.byte_count-edition.ensures.0 in
-    c.refused-then-edition-lt1.ensures
-    ∙ sym (at4 c.args.last c.args.file.now (past3 (goal.at.returns-then-edition-lt1 c).Else-not-marked) (elim c.then-edition-lt1.branch [
+    at4 c.args.last c.args.file.now c.into-then-edition-lt1.ensures (past3 (goal.at.returns-then-edition-lt1 c).Else-not-marked) (elim c.then-edition-lt1.branch [
       | then-edition-lt1-via-then-edition-lt1 w ↦ grind (arith, nat_tests, k, w.if-edition-lt1.true)
       | then-edition-lt1-via-else-edition-lt1+then-last-edition w ↦ grind (arith, nat_tests, k, w.if-last-edition.true)
-    ]))
+    ])
 
 pub returns-then-n-lt1 : goal.returns-then-n-lt1
 returns-then-n-lt1 c =
     let k = c.byte_count-edition.ensures.0 in
     let n = c.byte_count-n.ensures.0 in
-    c.refused-then-n-lt1.ensures
-    ∙ sym (at5 c.args.last c.args.file.now (past4 (goal.at.returns-then-n-lt1 c).Else-last-edition) (elim c.then-n-lt1.branch [
+    at5 c.args.last c.args.file.now c.into-then-n-lt1.ensures (past4 (goal.at.returns-then-n-lt1 c).Else-last-edition) (elim c.then-n-lt1.branch [
       | then-n-lt1-via-then-n-lt1 w ↦ grind (arith, nat_tests, k, n, w.if-n-lt1.true)
       | then-n-lt1-via-else-n-lt1+then-edition-n w ↦ grind (arith, nat_tests, k, n, w.if-edition-n.true)
-    ]))
+    ])
 
 pub reserved-requires : goal.reserved-requires
 reserved-requires c =
@@ -66,15 +64,14 @@ reserved-requires c =
 
 pub returns-then-t-lt1 : goal.returns-then-t-lt1
 returns-then-t-lt1 c =
-    c.refused-then-t-lt1.ensures
-    ∙ sym (at6 c.args.last c.args.file.now (past5 (goal.at.returns-then-t-lt1 c).Else-edition-n) (elim c.then-t-lt1.branch [
+    at6 c.args.last c.args.file.now c.into-then-t-lt1.ensures (past5 (goal.at.returns-then-t-lt1 c).Else-edition-n) (elim c.then-t-lt1.branch [
       | then-t-lt1-via-then-t-lt1 w ↦ grind (arith, nat_tests, w.if-t-lt1.true)
       | then-t-lt1-via-else-t-lt1+then-t-gt8 w ↦ grind (arith, nat_tests, w.if-t-gt8.true)
       | then-t-lt1-via-else-t-lt1+else-t-gt8+then-file-ne0 w ↦ grind (arith, nat_tests, w.if-file-ne0.true)
       | then-t-lt1-via-else-t-lt1+else-t-gt8+else-file-ne0+then-not-reserved w ↦ let e : reserve_test c.args.file.now ≡ true = ap not (sym w.reserved.ensures) ∙ ap not w.if-not-reserved.true in grind (arith, nat_tests)
-    ]))
+    ])
 
 pub returns : goal.returns
 returns c =
     let r = ap not (sym c.reserved.ensures) in
-    sym (at_none c.args.last c.args.file.now (past5 (goal.at.returns c).Else-edition-n) (let e : reserve_test c.args.file.now ≡ false = r ∙ ap not c.if-not-reserved.false in grind (arith, nat_tests)))
+    at_none c.args.last c.args.file.now (past5 (goal.at.returns c).Else-edition-n) (let e : reserve_test c.args.file.now ≡ false = r ∙ ap not c.if-not-reserved.false in grind (arith, nat_tests))
