@@ -7,7 +7,7 @@ pub mod masks;
 pub mod paths;
 pub mod predecessors;
 
-ghost use Rattle.std.specs.Prelude.{◌≡◌, true, false, ◌≤◌, length, MatchOption};
+ghost use Rattle.std.specs.Prelude.{◌≡◌, true, ◌≤◌, length, is_some, IfSome};
 ghost use Rattle.body.specs.Decode.{decode, task_of};
 ghost use Rattle.body.specs.Walk.{kept_of, Walked};
 ghost use Rattle.body.specs.Parts.{successors_end, references_end, successors_at, references_at};
@@ -26,7 +26,8 @@ pub struct BodyWalk<'a> {
 
 // Check 8 of one body, and where its blocks begin, if it keeps its layout: the one place where the bytes of a body are decoded.
 pub fn walk(body: &[u8]) -> Option<BodyWalk<'_>>
-    ensures { MatchOption result (kept_of (decode body.now) ≡ false) (λ w. w.body.now ≡ body.now) }
+    ensures kept { is_some result ≡ kept_of (decode body.now) }
+    ensures same { IfSome result (λ w. w.body.now ≡ body.now) }
 {
     if body.len() < 2 {
         return None;

@@ -13,18 +13,16 @@ use project::answers::{Check, Refusal};
 fn breaks_layout(body: &[u8]) -> bool
     ensures { result ≡ test8 body.now }
 {
-    !walk(body).kept
+    walk(body).is_none()
 }
 
 // Check 9 of one body; a body that breaks its layout has no blocks.
 fn off_path(body: &[u8]) -> bool
     ensures { result ≡ test9 body.now }
 {
-    let walked = walk(body);
-    if walked.kept {
-        !on_paths(body, walked)
-    } else {
-        false
+    match walk(body) {
+        Some(walked) => !on_paths(&walked),
+        None => false,
     }
 }
 

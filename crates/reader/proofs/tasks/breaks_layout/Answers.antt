@@ -1,7 +1,7 @@
--- `tasks::breaks_layout` meets its contract: the walk says whether the layout is kept. Assumes nothing.
-use mathlib.Core.Path.{ap}
-use mathlib.Core.Bool.{not}
+-- `tasks::breaks_layout` meets its contract: there is a walk where the layout is kept. Assumes nothing.
+use mathlib.Core.Path.{sym, ap, ◌∙◌}
+use mathlib.Core.Bool.{not, not-not}
 use Rattle.reader.proofs.tasks.breaks_layout.Goals as goal
 
 pub returns : goal.returns
-returns c = ap not c.walk.ensures.0
+returns c = sym (not-not c.is_none.result) ∙ ap not (sym c.is_none.ensures ∙ c.walk.ensures.kept)

@@ -1,16 +1,13 @@
 -- `tasks::off_path` meets its contract: a body that keeps its layout is searched, another has no blocks. Assumes nothing.
 use mathlib.Core.Path.{sym, ap, ◌∙◌}
 use mathlib.Core.Bool.{not}
+use Rattle.model.specs.OnPath.{all_on_path}
+use Rattle.body.specs.Decode.{decode, task_of}
 use Rattle.reader.proofs.TaskLaws.{broken_on_path}
 use Rattle.reader.proofs.tasks.off_path.Goals as goal
 
-pub on_paths-requires : goal.on_paths-requires
-on_paths-requires c =
-    let w = c.walk-walked.ensures in
-    (sym w.0 ∙ c.if-walked.true, w.1, w.2)
+pub returns-in-Some : goal.returns-in-Some
+returns-in-Some c = ap not (c.on_paths.ensures ∙ ap (λ s. all_on_path (task_of (decode s))) c.in-Some.ensures.same)
 
-pub returns-then-walked : goal.returns-then-walked
-returns-then-walked c = ap not c.on_paths.ensures
-
-pub returns-else-walked : goal.returns-else-walked
-returns-else-walked c = broken_on_path c.args.body.now (sym c.walk-walked.ensures.0 ∙ c.if-walked.false)
+pub returns-in-None : goal.returns-in-None
+returns-in-None c = broken_on_path c.args.body.now (sym c.in-None.ensures.kept)
