@@ -1,23 +1,26 @@
 -- What the passes over a nested sheet need of each task of a file, found once. Definitions only.
-use Rattle.std.specs.Prelude.{◌≡◌, List, ℕ, ◌*◌, ◌<◌, length, get_or, take, drop}
-use Rattle.model.specs.Tasks.{task}
-use Rattle.body.specs.Decode.{decode}
+use Rattle.std.specs.Prelude.{◌≡◌, List, ℕ, ◌<◌, length, get_or, replicate}
+use Rattle.body.specs.Layout.{Body}
+use Rattle.body.specs.Decode.{decode, task_of}
 use Rattle.body.specs.Walk.{starts_of}
 use Rattle.body.specs.Jumps.{jump_sets, unmasked_set}
 use Rattle.project.specs.File.{File, task_count, body_of}
-use Rattle.project.specs.Tasks.{tasks_of}
+use Rattle.task_maps.specs.declared.TaskMap.{TaskMap}
 
--- where the blocks of each task begin, 24 places a task; the places of absent tasks are left open
-pub record HasStarts (s : File) (list : List ℕ) : Type 0 where
-  pub long : length list ≡ 192
-  pub starts : (j : ℕ) → j < task_count s → take 24 (drop (24 * j) list) ≡ starts_of (decode (body_of s j))
+-- where the blocks of the task of a body begin, the sets of their successors, and the set of its unmasked blocks
+pub record IsMapOf (b : Body) (m : TaskMap) : Type 0 where
+  pub starts : m.starts ≡ starts_of (decode b)
+  pub jumps : m.jumps ≡ jump_sets (task_of (decode b))
+  pub unmasked : m.unmasked ≡ unmasked_set (task_of (decode b))
 
--- the sets of the successors of each task's blocks, likewise
-pub record HasJumps (s : File) (list : List ℕ) : Type 0 where
-  pub long : length list ≡ 192
-  pub jumps : (j : ℕ) → j < task_count s → take 24 (drop (24 * j) list) ≡ jump_sets (task (tasks_of s) j)
+abbrev pub no_map : TaskMap
+no_map = record { starts = replicate 24 0; jumps = replicate 24 0; unmasked = 0 }
 
--- the set of the unmasked blocks of each task
-pub record HasUnmasked (s : File) (list : List ℕ) : Type 0 where
-  pub long : length list ≡ 8
-  pub unmasked : (j : ℕ) → j < task_count s → get_or list j 0 ≡ unmasked_set (task (tasks_of s) j)
+-- the maps of the tasks below j; the places of the others are left open
+pub record MapsBelow (s : File) (j : ℕ) (maps : List TaskMap) : Type 0 where
+  pub long : length maps ≡ 8
+  pub each : (i : ℕ) → i < j → IsMapOf (body_of s i) (get_or maps i no_map)
+
+-- those of all tasks of a file
+abbrev pub HasMaps : File → List TaskMap → Type 0
+HasMaps s maps = MapsBelow s (task_count s) maps

@@ -1,75 +1,56 @@
 // What the passes need of each task of a file, found once: where its blocks begin, the sets of their successors, and the set of its unmasked blocks.
-// The places of tasks that the file doesn't have are left open.
 #![tactic(auto)]
 
-ghost use Rattle.std.specs.Prelude.{◌≡◌, true, length};
+ghost use Rattle.std.specs.Prelude.{◌≡◌, true};
+ghost use Rattle.body.specs.Decode.{decode};
+ghost use Rattle.body.specs.Walk.{kept_of};
 ghost use Rattle.project.specs.File.{task_count};
 ghost use Rattle.project.specs.Reading.{reading_of};
 ghost use Rattle.project.specs.Bodies.{accepted};
-ghost use Rattle.task_maps.specs.TaskMaps.{HasStarts, HasJumps, HasUnmasked};
+ghost use Rattle.task_maps.specs.TaskMaps.{IsMapOf, HasMaps};
 
 use body::jumps::jumps;
+use body::kept_walk;
 use body::masks::unmasked_blocks;
-use body::walk;
 use reader::task_body;
 
-// The 24 places of one task's starts are written.
-fn put_starts(starts: &[usize], part: &mut [usize])
-    requires { (length starts.now ≡ 24) × (length part.old ≡ 24) }
-    ensures { part.new ≡ starts.now }
+// Of one task: where its blocks begin, the sets of their successors, and the set of its unmasked blocks.
+#[derive(Clone, Copy)]
+pub struct TaskMap {
+    pub starts: [usize; 24],
+    pub jumps: [u32; 24],
+    pub unmasked: u32,
+}
+
+// What stands in the place of a task that the file doesn't have.
+const NO_MAP: TaskMap = TaskMap {
+    starts: [0; 24],
+    jumps: [0; 24],
+    unmasked: 0,
+};
+
+// The map of the task of a body.
+fn map_of(body: &[u8]) -> TaskMap
+    requires { kept_of (decode body.now) ≡ true }
+    ensures { IsMapOf body.now result }
 {
-    for b in 0..24 {
-        part[b] = starts[b];
+    let walked = kept_walk(body);
+    TaskMap {
+        starts: walked.starts,
+        jumps: jumps(&walked),
+        unmasked: unmasked_blocks(body),
     }
 }
 
-// The 24 sets of one task are written.
-fn put_sets(sets: &[u32], part: &mut [u32])
-    requires { (length sets.now ≡ 24) × (length part.old ≡ 24) }
-    ensures { part.new ≡ sets.now }
-{
-    for b in 0..24 {
-        part[b] = sets[b];
-    }
-}
-
-// Where the blocks of each task begin: those of task j stand from 24 j on.
-pub fn all_starts(file: &[u8], tasks: usize) -> [usize; 192]
+// The map of each task of an accepted file. The places of tasks that the file doesn't have are left open.
+pub fn task_maps(file: &[u8], tasks: usize) -> [TaskMap; 8]
     requires { (accepted (reading_of file.now) ≡ true) × (tasks ≡ task_count file.now) }
-    ensures { HasStarts file.now result }
+    ensures { HasMaps file.now result }
 {
-    let mut list = [0usize; 192];
+    let mut maps = [NO_MAP; 8];
+    // By number: the number is the task whose body is read.
     for j in 0..tasks {
-        let starts = walk(task_body(file, j)).starts;
-        let at = 24 * j;
-        put_starts(&starts, &mut list[at..at + 24]);
+        maps[j] = map_of(task_body(file, j));
     }
-    list
-}
-
-// The sets of the successors of each task's blocks: those of task j stand from 24 j on.
-pub fn all_jumps(file: &[u8], tasks: usize) -> [u32; 192]
-    requires { (accepted (reading_of file.now) ≡ true) × (tasks ≡ task_count file.now) }
-    ensures { HasJumps file.now result }
-{
-    let mut list = [0u32; 192];
-    for j in 0..tasks {
-        let body = task_body(file, j);
-        let sets = jumps(body, walk(body));
-        let at = 24 * j;
-        put_sets(&sets, &mut list[at..at + 24]);
-    }
-    list
-}
-
-// The set of the unmasked blocks of each task.
-pub fn all_unmasked(file: &[u8], tasks: usize) -> [u32; 8]
-    requires { (accepted (reading_of file.now) ≡ true) × (tasks ≡ task_count file.now) }
-    ensures { HasUnmasked file.now result }
-{
-    let mut sets = [0u32; 8];
-    for j in 0..tasks {
-        sets[j] = unmasked_blocks(task_body(file, j));
-    }
-    sets
+    maps
 }
