@@ -1,5 +1,8 @@
 -- The checks on a sheet: their answers in the code's words, that each test is the document's fault, and what passing them says.
 -- The idea: each check passed leaves the checks that follow.
+use Rattle.std.specs.Prelude.{Ok, Err}
+use Rattle.project.specs.declared.answers.Check.TheVariants.{MaskedPoint, SheetRules, WrongPath}
+use Rattle.project.specs.Checklist.{refusal}
 use mathlib.Core.Path.{◌≡◌, sym, ap, ◌∙◌, refl}
 use mathlib.Core.Bool.{Bool, true, false, ◌&&◌, not, true≢false, false≢true}
 use mathlib.Core.List.{List}
@@ -8,8 +11,6 @@ use Prim.Native.Nat.{ℕ}
 use lib.ListN.{length}
 use borrow.Author.Tests.{not-false, not-true}
 use Rattle.model.proofs.Membership.{both_left, both_right}
-use Rattle.project.specs.declared.answers.Check.TheVariants.{Passed}
-use Rattle.project.specs.declared.answers.Check.TheVariants.{Refused as Failed}
 use Rattle.project.specs.File.{task_count}
 use Rattle.project.specs.Checklist.{no_task, Agreeing}
 use Rattle.project.specs.Reading.{reading_of}
@@ -30,14 +31,14 @@ module _ (s sheet : List ℕ) {t : ℕ} {b : Bool} (file : accepted (reading_of 
   kept : kept_sheet (parse (task_count s) sheet) ≡ b
   kept = sym (eb ∙ ap (λ (k : ℕ). kept_sheet (parse k sheet)) et)
 
-  pub sheet_12 : b ≡ false → Failed 12 255 ≡ sheet_check s sheet
+  pub sheet_12 : b ≡ false → Err (refusal SheetRules 255) ≡ sheet_check s sheet
   sheet_12 q = sym (rw (kept, q))
 
   pub passed_12 : b ≡ true → Passed12 s sheet
   passed_12 q = record { file = file; kept = kept ∙ q }
 
   module _ {d : Bool} (q : b ≡ true) (ed : d ≡ complete_all (tasks_of s) (run_in s sheet) && done_all (tasks_of s) (run_in s sheet)) where
-    pub sheet_13 : d ≡ false → Failed 13 255 ≡ sheet_check s sheet
+    pub sheet_13 : d ≡ false → Err (refusal WrongPath 255) ≡ sheet_check s sheet
     sheet_13 g = sym (rw (kept, q, ← ed, g))
 
     pub passed_13 : d ≡ true → Passed13 s sheet
@@ -48,10 +49,10 @@ module _ (s sheet : List ℕ) {t : ℕ} {b : Bool} (file : accepted (reading_of 
     }
 
     module _ {m : Bool} (g : d ≡ true) (em : m ≡ unmasked_all (tasks_of s) (run_in s sheet)) where
-      pub sheet_16 : m ≡ false → Failed 16 255 ≡ sheet_check s sheet
+      pub sheet_16 : m ≡ false → Err (refusal MaskedPoint 255) ≡ sheet_check s sheet
       sheet_16 x = sym (rw (kept, q, ← ed, g, ← em, x))
 
-      pub sheet-passed : m ≡ true → Passed ≡ sheet_check s sheet
+      pub sheet-passed : m ≡ true → Ok tt ≡ sheet_check s sheet
       sheet-passed x = sym (rw (kept, q, ← ed, g, ← em, x))
 
 -- what passing the checks on the sheet says
@@ -61,11 +62,11 @@ pub record SheetPassed (s sheet : List ℕ) : Type 0 where
   pub done : done_all (tasks_of s) (run_in s sheet) ≡ true
   pub unmasked : unmasked_all (tasks_of s) (run_in s sheet) ≡ true
 
-pub passed-sheet : (s sheet : List ℕ) → sheet_check s sheet ≡ Passed → SheetPassed s sheet
+pub passed-sheet : (s sheet : List ℕ) → sheet_check s sheet ≡ Ok tt → SheetPassed s sheet
 passed-sheet s sheet e =
-    let (e12, r) = unless-passed 12 no_task (test12 s sheet) _ e in
-    let (e13, q) = unless-passed 13 no_task (test13 s sheet) _ r in
-    let e16 = (unless-passed 16 no_task (test16 s sheet) Passed q).0 in
+    let (e12, r) = unless-passed SheetRules no_task (test12 s sheet) _ e in
+    let (e13, q) = unless-passed WrongPath no_task (test13 s sheet) _ r in
+    let e16 = (unless-passed MaskedPoint no_task (test16 s sheet) (Ok tt) q).0 in
     let right = not-false (complete_all (tasks_of s) (run_in s sheet) && done_all (tasks_of s) (run_in s sheet)) e13 in
     record {
       kept = not-false (kept_sheet (parse (task_count s) sheet)) e12;

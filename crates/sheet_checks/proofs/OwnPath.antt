@@ -11,7 +11,7 @@ use Rattle.model.proofs.Disjoint.{all_map}
 use Rattle.model.proofs.Membership.{both_left}
 use Rattle.body.specs.Layout.{InBounds}
 use Rattle.body.specs.Decode.{decode, task_of}
-use Rattle.body.specs.Walk.{starts_of}
+use Rattle.body.specs.Walk.{kept_of, starts_of}
 use Rattle.project.specs.File.{body_of}
 use Rattle.project.specs.Reading.{reading_of}
 use Rattle.project.specs.Bodies.{accepted}
@@ -48,9 +48,12 @@ module _ (s sheet : List ℕ) (rules : Passed12 s sheet) where
     pub own-blocks : path_part sheet k ≡ (run_in s sheet).path
     own-blocks = own-path s sheet own_facts ey ek
 
+    pub own-kept : kept_of (decode body) ≡ true
+    own-kept = body_kept s y (task-body s rules.file y (own-there s sheet own_facts ey ek)) eb
+
     pub own_in : complete_all (tasks_of s) (run_in s sheet) ≡ true → {starts : List ℕ} → starts ≡ starts_of (decode body) → PathIn body starts (path_part sheet k)
     own_in c es = record {
-      runs = record { kept = body_kept s y (task-body s rules.file y (own-there s sheet own_facts ey ek)) eb; below = below own-task own-blocks };
+      runs = record { kept = own-kept; below = below own-task own-blocks };
       begin = es;
     }
       where

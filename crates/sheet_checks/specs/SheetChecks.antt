@@ -1,6 +1,7 @@
 -- Document 01, "Numbers of the checks", and document 02, Points 1 and 6: the checks on a run sheet, with a file. Definitions only.
+use Rattle.project.specs.declared.answers.Check.TheVariants.{MaskedPoint, SheetRules, WrongPath}
+use Rattle.project.specs.Checklist.{Checked}
 use Rattle.std.specs.Prelude.{◌≡◌, Bool, true, not, ◌&&◌, List, [], ◌∷◌}
-use Rattle.project.specs.declared.answers.Check.{Check}
 use Rattle.project.specs.File.{File, task_count}
 use Rattle.project.specs.Checklist.{Entry, one, no_task, verdict_of}
 use Rattle.project.specs.Reading.{reading_of}
@@ -29,12 +30,12 @@ test16 s sheet = not (unmasked_all (tasks_of s) (run_in s sheet))
 -- the checks on the sheet; document 02, Point 1: "16, a preemption at a masked position, after 13"
 abbrev pub sheet_checks : File → Sheet → List Entry
 sheet_checks s sheet =
-    one 12 no_task (test12 s sheet) (Fault12 (task_count s) sheet)
-    ∷ one 13 no_task (test13 s sheet) (Fault13 (tasks_of s) sheet)
-    ∷ one 16 no_task (test16 s sheet) (Fault16 (tasks_of s) sheet)
+    one SheetRules no_task (test12 s sheet) (Fault12 (task_count s) sheet)
+    ∷ one WrongPath no_task (test13 s sheet) (Fault13 (tasks_of s) sheet)
+    ∷ one MaskedPoint no_task (test16 s sheet) (Fault16 (tasks_of s) sheet)
     ∷ []
 
-abbrev pub sheet_check : File → Sheet → Check
+abbrev pub sheet_check : File → Sheet → Checked
 sheet_check s sheet = verdict_of (sheet_checks s sheet)
 
 -- ---- for the functions that come after a check

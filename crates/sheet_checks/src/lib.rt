@@ -11,16 +11,14 @@ ghost use Rattle.project.specs.Reading.{reading_of};
 ghost use Rattle.project.specs.Bodies.{accepted};
 ghost use Rattle.project.specs.Tasks.{tasks_of};
 ghost use Rattle.sheet.specs.Parsed.{complete_path, each_passes, complete_by, complete_all, right_done, done_all, unmasked_all};
-ghost use Rattle.runs.specs.Running.{PathIn};
 ghost use Rattle.runs.specs.Parts.{references_at};
 ghost use Rattle.sheet_checks.specs.SheetChecks.{run_in, sheet_check, Passed12, Passed13};
 
+use body::kept_walk;
 use body::masks::unmasked_blocks;
-use body::walk;
-use cache::numbers::count;
-use project::answers::{Check, refused};
+use project::answers::{Check, Refusal};
 use reader::task_body;
-use runs::path::count_on;
+use runs::path::BodyPath;
 use sheet::complete::complete;
 use sheet::rules::sheet_kept;
 
@@ -37,11 +35,12 @@ fn each_complete(file: &[u8], sheet: &[u16]) -> bool
     requires { Passed12 file.now sheet.now }
     ensures { result ≡ each_passes (complete_by (tasks_of file.now)) (run_in file.now sheet.now).preemptions }
 {
-    let mut at = 3 + count(sheet[1]);
+    let mut at = 3 + usize::from(sheet[1]);
+    // By place: where the next preemption begins is told by the length of this one's path.
     while at < sheet.len() {
         let from = at + 4;
-        let to = from + count(sheet[at + 3]);
-        if complete_in(file, count(sheet[at + 2]), &sheet[from..to]) {
+        let to = from + usize::from(sheet[at + 3]);
+        if complete_in(file, usize::from(sheet[at + 2]), &sheet[from..to]) {
             at = to;
         } else {
             return false;
@@ -55,19 +54,19 @@ fn all_complete(file: &[u8], sheet: &[u16]) -> bool
     requires { Passed12 file.now sheet.now }
     ensures { result ≡ complete_all (tasks_of file.now) (run_in file.now sheet.now) }
 {
-    let end = 2 + count(sheet[1]);
-    if complete_in(file, count(sheet[0]), &sheet[2..end]) {
+    let end = 2 + usize::from(sheet[1]);
+    if complete_in(file, usize::from(sheet[0]), &sheet[2..end]) {
         return each_complete(file, sheet);
     }
     false
 }
 
 // Whether so many references may be done where a preemption comes in the block at a position of a path: from 1 to all, or 0 where it has none.
-pub fn right_done(body: &[u8], starts: &[usize], path: &[u16], position: usize, done: usize) -> bool
-    requires { PathIn body.now starts.now path.now × (position < length path.now) }
-    ensures { result ≡ right_done (references_at (task_of (decode body.now)) path.now position) done }
+pub fn right_done(on: &BodyPath<'_>, position: usize, done: usize) -> bool
+    requires { position < length on.now.path.now }
+    ensures { result ≡ right_done (references_at (task_of (decode on.now.body.now)) on.now.path.now position) done }
 {
-    let all = count_on(body, starts, path, position);
+    let all = on.count_on(position);
     if done == 0 { all == 0 } else { done <= all }
 }
 
@@ -77,14 +76,17 @@ fn all_done(file: &[u8], sheet: &[u16]) -> bool
     requires { Passed12 file.now sheet.now × (complete_all (tasks_of file.now) (run_in file.now sheet.now) ≡ true) }
     ensures { result ≡ done_all (tasks_of file.now) (run_in file.now sheet.now) }
 {
-    let long = count(sheet[1]);
-    let body = task_body(file, count(sheet[0]));
-    let starts = walk(body).starts;
+    let long = usize::from(sheet[1]);
+    let body = task_body(file, usize::from(sheet[0]));
     let path = &sheet[2..2 + long];
+    let walked = kept_walk(body);
+    let starts = &walked.starts;
+    let on = BodyPath { body, starts, path };
     let mut at = 3 + long;
+    // By place: where the next preemption begins is told by the length of this one's path.
     while at < sheet.len() {
-        if right_done(body, &starts, path, count(sheet[at]), count(sheet[at + 1])) {
-            at = at + 4 + count(sheet[at + 3]);
+        if right_done(&on, usize::from(sheet[at]), usize::from(sheet[at + 1])) {
+            at = at + 4 + usize::from(sheet[at + 3]);
         } else {
             return false;
         }
@@ -117,32 +119,33 @@ fn all_unmasked(file: &[u8], sheet: &[u16]) -> bool
     requires { Passed13 file.now sheet.now }
     ensures { result ≡ unmasked_all (tasks_of file.now) (run_in file.now sheet.now) }
 {
-    let set = unmasked_in(file, count(sheet[0]));
-    let mut at = 3 + count(sheet[1]);
+    let set = unmasked_in(file, usize::from(sheet[0]));
+    let mut at = 3 + usize::from(sheet[1]);
+    // By place: where the next preemption begins is told by the length of this one's path.
     while at < sheet.len() {
-        let position = count(sheet[at]);
-        let block = count(sheet[2 + position]);
+        let position = usize::from(sheet[at]);
+        let block = usize::from(sheet[2 + position]);
         if set & (1 << block) == 0 {
             return false;
         }
-        at = at + 4 + count(sheet[at + 3]);
+        at = at + 4 + usize::from(sheet[at + 3]);
     }
     true
 }
 
 // The checks on the sheet, with an accepted file of this many tasks.
-pub fn check_sheet(file: &[u8], sheet: &[u16], tasks: usize) -> Check
+pub fn check_sheet(file: &[u8], sheet: &[u16], tasks: usize) -> Result<(), Refusal>
     requires { (accepted (reading_of file.now) ≡ true) × (tasks ≡ task_count file.now) }
     ensures { result ≡ sheet_check file.now sheet.now }
 {
-    if sheet_kept(sheet, tasks) {
-        if paths_and_points(file, sheet) {
-            if all_unmasked(file, sheet) {
-                return Check::Passed;
-            }
-            return refused(16);
-        }
-        return refused(13);
+    if !sheet_kept(sheet, tasks) {
+        return Err(Check::SheetRules.into());
     }
-    refused(12)
+    if !paths_and_points(file, sheet) {
+        return Err(Check::WrongPath.into());
+    }
+    if !all_unmasked(file, sheet) {
+        return Err(Check::MaskedPoint.into());
+    }
+    Ok(())
 }

@@ -5,7 +5,7 @@ use lib.ListN.{length}
 use Rattle.sheet_checks.proofs.SheetLaws.{SheetFacts, sheet_facts, NextLeft, each_start, next-left, each-end, each-broken, each_on}
 use Rattle.sheet_checks.proofs.PointLaws.{mask_test, block-there, block-below, point_masked, point_unmasked}
 use Rattle.sheet_checks.proofs.all_unmasked.Goals as goal
-use Rattle.sheet_checks.proofs.all_unmasked.Goals.{After-count-block, After-count-position, In-loop-at, Start}
+use Rattle.sheet_checks.proofs.all_unmasked.Goals.{After-from-block, After-from-position, In-loop-at, Start}
 
 facts : (c : Start) → SheetFacts c.args.file.now c.args.sheet.now
 facts c = sheet_facts c.args.file.now c.args.sheet.now c.requires.rules
@@ -19,18 +19,18 @@ next c =
     next-left (mask_test args.file.now args.sheet.now) args.file.now args.sheet.now c.loop-at.at c.loop-at.invariant c.loop-at-test.true
 
 -- the block at its point lies in the sheet
-there : (c : After-count-position) → 2 + c.count-position.result < length c.args.sheet.now
+there : (c : After-from-position) → 2 + c.from-position.result < length c.args.sheet.now
 there c =
     let k = c in
     let start = k in
-    block-there (mask_test start.args.file.now start.args.sheet.now) start.args.file.now start.args.sheet.now start.requires.rules k.loop-at.at ((let here : let args = c.args in NextLeft (mask_test args.file.now args.sheet.now) args.file.now args.sheet.now c.loop-at.at = let args = c.args in next-left (mask_test args.file.now args.sheet.now) args.file.now args.sheet.now c.loop-at.at c.loop-at.invariant c.loop-at-test.true in here)) c.count-position.ensures.0
+    block-there (mask_test start.args.file.now start.args.sheet.now) start.args.file.now start.args.sheet.now start.requires.rules k.loop-at.at ((let here : let args = c.args in NextLeft (mask_test args.file.now args.sheet.now) args.file.now args.sheet.now c.loop-at.at = let args = c.args in next-left (mask_test args.file.now args.sheet.now) args.file.now args.sheet.now c.loop-at.at c.loop-at.invariant c.loop-at-test.true in here)) c.from-position.ensures
 
 -- its number is below 24
-below : (c : After-count-block) → c.count-block.result < 24
+below : (c : After-from-block) → c.from-block.result < 24
 below c =
     let k = c in
     let start = k in
-    block-below start.args.file.now start.args.sheet.now start.requires k.loop-at.at ((let here : let args = c.args in NextLeft (mask_test args.file.now args.sheet.now) args.file.now args.sheet.now c.loop-at.at = let args = c.args in next-left (mask_test args.file.now args.sheet.now) args.file.now args.sheet.now c.loop-at.at c.loop-at.invariant c.loop-at-test.true in here)) c.count-position.ensures.0 c.count-block.ensures.0
+    block-below start.args.file.now start.args.sheet.now start.requires k.loop-at.at ((let here : let args = c.args in NextLeft (mask_test args.file.now args.sheet.now) args.file.now args.sheet.now c.loop-at.at = let args = c.args in next-left (mask_test args.file.now args.sheet.now) args.file.now args.sheet.now c.loop-at.at c.loop-at.invariant c.loop-at-test.true in here)) c.from-position.ensures c.from-block.ensures
 
 pub bounds-sheet-0 : goal.bounds-sheet-0
 bounds-sheet-0 c = omega (arith, (facts (goal.at.bounds-sheet-0 c).Start).places.within)
@@ -38,7 +38,7 @@ bounds-sheet-0 c = omega (arith, (facts (goal.at.bounds-sheet-0 c).Start).places
 pub unmasked_in-set-requires : goal.unmasked_in-set-requires
 unmasked_in-set-requires c =
     let start = c in
-    (start.requires.rules.file, omega (arith, c.count.ensures.0, (facts (goal.at.unmasked_in-set-requires c).Start).places.task-at, (facts (goal.at.unmasked_in-set-requires c).Start).rules.there))
+    (start.requires.rules.file, omega (arith, c.from.ensures, (facts (goal.at.unmasked_in-set-requires c).Start).places.task-at, (facts (goal.at.unmasked_in-set-requires c).Start).rules.there))
 
 pub bounds-sheet-1 : goal.bounds-sheet-1
 bounds-sheet-1 c = omega (arith, (facts (goal.at.bounds-sheet-1 c).Start).places.within)
@@ -46,10 +46,10 @@ bounds-sheet-1 c = omega (arith, (facts (goal.at.bounds-sheet-1 c).Start).places
 pub loop-at-init : goal.loop-at-init
 loop-at-init c =
     let start = c in
-    each_start (mask_test start.args.file.now start.args.sheet.now) start.args.file.now start.args.sheet.now (facts (goal.at.loop-at-init c).Start) c.count-at.ensures.0
+    each_start (mask_test start.args.file.now start.args.sheet.now) start.args.file.now start.args.sheet.now (facts (goal.at.loop-at-init c).Start) c.from-at.ensures
 
 pub bounds-sheet-position : goal.bounds-sheet-position
-bounds-sheet-position c = omega (arith, there (goal.at.bounds-sheet-position c).After-count-position)
+bounds-sheet-position c = omega (arith, there (goal.at.bounds-sheet-position c).After-from-position)
 
 pub overflow_cast-block : goal.overflow_cast-block
 overflow_cast-block c = omega (arith, below c)
@@ -66,7 +66,7 @@ returns-then-set-block-eq0 c =
     let sheet = start.args.sheet.now in
     let set = k in
     each-broken (mask_test file sheet) file sheet k.loop-at.at (next (goal.at.returns-then-set-block-eq0 c).In-loop-at)
-    (point_masked file sheet start.requires k.loop-at.at (next (goal.at.returns-then-set-block-eq0 c).In-loop-at) m.count-position.ensures.0 m.count-block.ensures.0 set.count.ensures.0 set.unmasked_in-set.ensures c.if-set-block-eq0.true)
+    (point_masked file sheet start.requires k.loop-at.at (next (goal.at.returns-then-set-block-eq0 c).In-loop-at) m.from-position.ensures m.from-block.ensures set.from.ensures set.unmasked_in-set.ensures c.if-set-block-eq0.true)
 
 pub bounds-sheet-at-in-loop-at : goal.bounds-sheet-at-in-loop-at
 bounds-sheet-at-in-loop-at c = omega (arith, (next (goal.at.bounds-sheet-at-in-loop-at c).In-loop-at).places.within)
@@ -79,8 +79,8 @@ loop-at-preserved c =
     let file = start.args.file.now in
     let sheet = start.args.sheet.now in
     let set = k in
-    each_on (mask_test file sheet) file sheet k.loop-at.at (next (goal.at.loop-at-preserved c).In-loop-at) c.count-in-loop-at.ensures.0
-    (point_unmasked file sheet start.requires k.loop-at.at (next (goal.at.loop-at-preserved c).In-loop-at) m.count-position.ensures.0 m.count-block.ensures.0 set.count.ensures.0 set.unmasked_in-set.ensures c.if-set-block-eq0.false)
+    each_on (mask_test file sheet) file sheet k.loop-at.at (next (goal.at.loop-at-preserved c).In-loop-at) c.from-in-loop-at.ensures
+    (point_unmasked file sheet start.requires k.loop-at.at (next (goal.at.loop-at-preserved c).In-loop-at) m.from-position.ensures m.from-block.ensures set.from.ensures set.unmasked_in-set.ensures c.if-set-block-eq0.false)
 
 pub returns : goal.returns
 returns c =

@@ -8,7 +8,7 @@ use Rattle.project.specs.Tasks.{tasks_of}
 use Rattle.sheet.specs.Parsed.{complete_by}
 use Rattle.sheet_checks.proofs.SheetLaws.{SheetFacts, sheet_facts, NextLeft, each_start, next-left, each-end, each-broken, each_on, next-there, next_judged}
 use Rattle.sheet_checks.proofs.each_complete.Goals as goal
-use Rattle.sheet_checks.proofs.each_complete.Goals.{After-complete_in, After-count, After-count-in-loop-at, In-loop-at, Start}
+use Rattle.sheet_checks.proofs.each_complete.Goals.{After-complete_in, After-from, After-from-in-loop-at, In-loop-at, Start}
 
 facts : (c : Start) → SheetFacts c.args.file.now c.args.sheet.now
 facts c = sheet_facts c.args.file.now c.args.sheet.now c.requires
@@ -22,16 +22,16 @@ next c =
     next-left (complete_by (tasks_of args.file.now)) args.file.now args.sheet.now c.loop-at.at c.loop-at.invariant c.loop-at-test.true
 
 -- it lies in the sheet
-within : (c : After-count)
-    → c.loop-at.at + 4 + c.count.result ≤ length c.args.sheet.now
-within c = let n = (let here : let args = c.args in NextLeft (complete_by (tasks_of args.file.now)) args.file.now args.sheet.now c.loop-at.at = let args = c.args in next-left (complete_by (tasks_of args.file.now)) args.file.now args.sheet.now c.loop-at.at c.loop-at.invariant c.loop-at-test.true in here) in omega (arith, c.count.ensures.0, n.places.long-at, n.places.within)
+within : (c : After-from)
+    → c.loop-at.at + 4 + c.from.result ≤ length c.args.sheet.now
+within c = let n = (let here : let args = c.args in NextLeft (complete_by (tasks_of args.file.now)) args.file.now args.sheet.now c.loop-at.at = let args = c.args in next-left (complete_by (tasks_of args.file.now)) args.file.now args.sheet.now c.loop-at.at c.loop-at.invariant c.loop-at-test.true in here) in omega (arith, c.from.ensures, n.places.long-at, n.places.within)
 
 -- its task is one of the file
-there : (c : After-count-in-loop-at) → c.count-in-loop-at.result < task_count c.args.file.now
+there : (c : After-from-in-loop-at) → c.from-in-loop-at.result < task_count c.args.file.now
 there c =
     let args = c.args in
     next-there (complete_by (tasks_of args.file.now)) args.file.now args.sheet.now c.loop-at.at ((let here : let args = c.args in NextLeft (complete_by (tasks_of args.file.now)) args.file.now args.sheet.now c.loop-at.at = let args = c.args in next-left (complete_by (tasks_of args.file.now)) args.file.now args.sheet.now c.loop-at.at c.loop-at.invariant c.loop-at-test.true in here))
-    c.count-in-loop-at.ensures.0 c.count.ensures.0
+    c.from-in-loop-at.ensures c.from.ensures
 
 -- what the test says of its path
 judged : (c : After-complete_in)
@@ -41,7 +41,7 @@ judged c =
     let k = c in
     let args = k.args in
     next_judged (complete_by (tasks_of args.file.now)) args.file.now args.sheet.now k.loop-at.at ((let here : let args = c.args in NextLeft (complete_by (tasks_of args.file.now)) args.file.now args.sheet.now c.loop-at.at = let args = c.args in next-left (complete_by (tasks_of args.file.now)) args.file.now args.sheet.now c.loop-at.at c.loop-at.invariant c.loop-at-test.true in here))
-    k.count-in-loop-at.ensures.0 k.count.ensures.0 (tasks_of args.file.now) c.complete_in.ensures
+    k.from-in-loop-at.ensures k.from.ensures (tasks_of args.file.now) c.complete_in.ensures
 
 pub bounds-sheet-1 : goal.bounds-sheet-1
 bounds-sheet-1 c = omega (arith, (facts (goal.at.bounds-sheet-1 c).Start).places.within)
@@ -49,7 +49,7 @@ bounds-sheet-1 c = omega (arith, (facts (goal.at.bounds-sheet-1 c).Start).places
 pub loop-at-init : goal.loop-at-init
 loop-at-init c =
     let start = c in
-    each_start (complete_by (tasks_of start.args.file.now)) start.args.file.now start.args.sheet.now (facts (goal.at.loop-at-init c).Start) c.count-at.ensures.0
+    each_start (complete_by (tasks_of start.args.file.now)) start.args.file.now start.args.sheet.now (facts (goal.at.loop-at-init c).Start) c.from-at.ensures
 
 pub bounds-sheet-at : goal.bounds-sheet-at
 bounds-sheet-at c = omega (arith, (next (goal.at.bounds-sheet-at c).In-loop-at).places.within)
@@ -58,17 +58,17 @@ pub bounds-sheet-at-in-loop-at : goal.bounds-sheet-at-in-loop-at
 bounds-sheet-at-in-loop-at c = omega (arith, (next (goal.at.bounds-sheet-at-in-loop-at c).In-loop-at).places.within)
 
 pub slice_bounds-complete_in-end : goal.slice_bounds-complete_in-end
-slice_bounds-complete_in-end c = omega (arith, within (goal.at.slice_bounds-complete_in-end c).After-count)
+slice_bounds-complete_in-end c = omega (arith, within (goal.at.slice_bounds-complete_in-end c).After-from)
 
 pub complete_in-requires : goal.complete_in-requires
-complete_in-requires c = (c.requires.file, there (goal.at.complete_in-requires c).After-count-in-loop-at)
+complete_in-requires c = (c.requires.file, there (goal.at.complete_in-requires c).After-from-in-loop-at)
 
 pub loop-at-preserved : goal.loop-at-preserved
 loop-at-preserved c =
     let k = c in
     let args = k.args in
     each_on (complete_by (tasks_of args.file.now)) args.file.now args.sheet.now k.loop-at.at (next (goal.at.loop-at-preserved c).In-loop-at)
-    k.count.ensures.0 (judged (goal.at.loop-at-preserved c).After-complete_in ∙ c.if-complete_in.true)
+    k.from.ensures (judged (goal.at.loop-at-preserved c).After-complete_in ∙ c.if-complete_in.true)
 
 pub returns-else-complete_in : goal.returns-else-complete_in
 returns-else-complete_in c =
