@@ -37,9 +37,8 @@ use Rattle.runs.proofs.BothLaws.{counts_less, counts_after}
 use Rattle.sheet_checks.specs.SheetChecks.{run_in, Passed13}
 use Rattle.sheet_checks.proofs.SheetLaws.{SheetFacts}
 use Rattle.sheet_checks.proofs.OwnPath.{own_task, own_facts, own-bounds}
-use Rattle.replay.specs.declared.Replaying.{Replaying}
-use Rattle.replay.specs.declared.Replaying.TheVariants.{Counted}
-use Rattle.replay.specs.Replay.{counted_in}
+use Rattle.replay.specs.declared.Counted.{Counted}
+use Rattle.replay.specs.Replay.{counted, counted_in}
 
 -- ---- points
 
@@ -156,19 +155,19 @@ module _ (s sheet : List ℕ) (shape : CacheShape) (h : Passed13 s sheet) (block
   blocks_high = omega (arith, (task-body s h.rules.file r.p facts.rules.there).high)
 
   -- both runs at the end have the counts of the definitions, in rows of as many places as cache blocks
-  whole_counts : Counted (whole s sheet shape).undisturbed.count (whole s sheet shape).disturbed.count (whole s sheet shape).lost ≡ counted_in s r
+  whole_counts : counted (whole s sheet shape).undisturbed.count (whole s sheet shape).disturbed.count (whole s sheet shape).lost ≡ counted_in s r
   whole_counts =
-      ap (λ (es : List Event). counted (both_events k (both_first k) es)) (segments_all position_of done_of tp r.path (all_of ts) r.preemptions some (rises-all r.preemptions facts.rules.rising) all-points)
+      ap (λ (es : List Event). of_both (both_events k (both_first k) es)) (segments_all position_of done_of tp r.path (all_of ts) r.preemptions some (rises-all r.preemptions facts.rules.rising) all-points)
       ∙ three (end-undisturbed k ts tp r.path r.preemptions) (end-disturbed k ts tp r.path r.preemptions) (end-lost k ts tp r.path r.preemptions)
-      ∙ ap (λ (x : CacheShape). Counted (count_at_end (shaped 32 x) ts tp r.path []) (count_at_end (shaped 32 x) ts tp r.path r.preemptions) (lost_at_end (shaped 32 x) ts tp r.path r.preemptions)) blocks
+      ∙ ap (λ (x : CacheShape). counted (count_at_end (shaped 32 x) ts tp r.path []) (count_at_end (shaped 32 x) ts tp r.path r.preemptions) (lost_at_end (shaped 32 x) ts tp r.path r.preemptions)) blocks
       ∙ three (count-width (cache_blocks s) 32 blocks-low blocks_high ts tp r.path []) (count-width (cache_blocks s) 32 blocks-low blocks_high ts tp r.path r.preemptions)
       (lost-width (cache_blocks s) 32 blocks-low blocks_high ts tp r.path r.preemptions)
     where
-      counted : Both → Replaying
-      counted b = Counted b.undisturbed.count b.disturbed.count b.lost
+      of_both : Both → Counted
+      of_both b = counted b.undisturbed.count b.disturbed.count b.lost
 
-      three : {u u' d d' l l' : ℕ} → u ≡ u' → d ≡ d' → l ≡ l' → ◌≡◌ {A = Replaying} (Counted u d l) (Counted u' d' l')
-      three {u' = u'} {d' = d'} {l = l} eu ed el = ap₂ (λ (x y : ℕ). Counted x y l) eu ed ∙ ap (Counted u' d') el
+      three : {u u' d d' l l' : ℕ} → u ≡ u' → d ≡ d' → l ≡ l' → ◌≡◌ {A = Counted} (counted u d l) (counted u' d' l')
+      three {u' = u'} {d' = d'} {l = l} eu ed el = ap₂ (λ (x y : ℕ). counted x y l) eu ed ∙ ap (counted u' d') el
 
   -- at first, where `long` is the number of the path's length
   pub run_start : {run : Both} {long : ℕ} → run ≡ both_first (direct 32) → long ≡ get_or sheet 1 0 → RunLeft s sheet shape run first_point (3 + long)
@@ -297,9 +296,9 @@ module _ (s sheet : List ℕ) (shape : CacheShape) (h : Passed13 s sheet) (block
       few = x.few;
     }
 
-    pub run_end_lem : length sheet ≤ at → {end : Both} → end ≡ own_both k run (own_part s sheet from (own_last s sheet)) → Counted end.undisturbed.count end.disturbed.count end.lost ≡ counted_in s r
+    pub run_end_lem : length sheet ≤ at → {end : Both} → end ≡ own_both k run (own_part s sheet from (own_last s sheet)) → counted end.undisturbed.count end.disturbed.count end.lost ≡ counted_in s r
     run_end_lem l e =
         let none = none_left sheet at x.left l x.numbers-at in
-        ap (λ (b : Both). Counted b.undisturbed.count b.disturbed.count b.lost) (
+        ap (λ (b : Both). counted b.undisturbed.count b.disturbed.count b.lost) (
         e ∙ sym (events_refs k (own_part s sheet from (own_last s sheet)) run []) ∙ ap (on_from s sheet shape run from) (sym none) ∙ x.same)
         ∙ whole_counts

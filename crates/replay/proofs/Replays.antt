@@ -1,5 +1,7 @@
 -- What Replay answers is the verdict of the definitions; every disturbed run of an accepted file that a sheet can hold has its answer; demand 3 of the answers.
 -- The idea: the checks of the file are the reader's; checks 12, 13 and 16 are the tests of the sheet, whose run is a disturbed run.
+use Rattle.std.specs.Prelude.{Result, Ok, Err}
+use Rattle.project.specs.Checklist.{Checked, answered}
 use mathlib.Core.Path.{◌≡◌, refl, sym, subst, ◌∙◌}
 use mathlib.Core.Bool.{true}
 use mathlib.Core.List.{List, [], ◌∷◌}
@@ -12,13 +14,9 @@ use Rattle.model.specs.Tasks.{task}
 use Rattle.model.specs.Runs.{Preemption, Preempts, DisturbedRun, U, D, lost_hits}
 use Rattle.model.specs.Demand.{pair_sum}
 use Rattle.model.proofs.Membership.{all_join}
-use Rattle.project.specs.declared.answers.Check.{Check}
-use Rattle.project.specs.declared.answers.Check.TheVariants.{Passed}
-use Rattle.project.specs.declared.answers.Check.TheVariants.{Refused as Failed}
-use Rattle.project.specs.declared.answers.Reading.TheVariants.{Accepted}
-use Rattle.project.specs.File.{cache_blocks, task_count}
+use Rattle.project.specs.File.{task_count}
 use Rattle.project.specs.Checklist.{numbers, Verdict, Agreeing}
-use Rattle.project.specs.Reading.{file_checks, file_check, reading_of}
+use Rattle.project.specs.Reading.{file_checks, file_check, counts_of, reading_of}
 use Rattle.project.specs.Bodies.{accepted}
 use Rattle.project.specs.Tasks.{tasks_of, file_cache}
 use Rattle.project.proofs.Checklists.{verdict_exact, agreeing_append}
@@ -37,9 +35,9 @@ use Rattle.sheet_checks.proofs.OwnPath.{path_two_bytes}
 use Rattle.sheet_checks.proofs.CheckLaws.{SheetPassed, passed-sheet, is-parsed, sheet_agreeing}
 use Rattle.body.proofs.Decoded.{few-references}
 use Rattle.runs.proofs.Segments.{done_le}
-use Rattle.replay.specs.declared.Replaying.{Replaying}
-use Rattle.replay.specs.declared.Replaying.TheVariants.{Counted, Refused}
-use Rattle.replay.specs.Replay.{replay_checks, replay_check, undisturbed_in, disturbed_in, lost_in, counted_in, pick_replaying, replaying_of}
+use Rattle.replay.specs.Replay.{counted, replay_checks, replay_check, undisturbed_in, disturbed_in, lost_in, counted_in, replaying_of}
+use Rattle.project.specs.declared.answers.Refusal.{Refusal}
+use Rattle.replay.specs.declared.Counted.{Counted}
 use Rattle.replay.specs.ReplayVerdict.{Replayed, ReplayVerdict}
 use Rattle.replay.proofs.CallLaws.{replay_parts, answer-by}
 
@@ -62,9 +60,9 @@ module _ (s sheet : List ℕ) where
   pub replay_verdict : All (λ (x : ℕ). x < 256) s → ReplayVerdict s sheet (replaying_of s sheet)
   replay_verdict h = go (replay_check s sheet) refl (verdict_exact (replay_checks s sheet) (replay_agreeing h))
     where
-      go : (r : Check) → replay_check s sheet ≡ r → Verdict (replay_checks s sheet) r → ReplayVerdict s sheet (pick_replaying r (counted_in s (run_in s sheet)))
-      go Passed e v = (v, its_run (passed-sheet s sheet (then_passed (file_check s) (sheet_check s sheet) (sym (replay_parts s sheet) ∙ e)).1))
-      go (Failed c a) e v = v
+      go : (r : Checked) → replay_check s sheet ≡ r → Verdict (replay_checks s sheet) r → ReplayVerdict s sheet (answered r (counted_in s (run_in s sheet)))
+      go (Ok tt) e v = (v, its_run (passed-sheet s sheet (then_passed (file_check s) (sheet_check s sheet) (sym (replay_parts s sheet) ∙ e)).1))
+      go (Err r) e v = v
 
   -- "Replay checks 2 to 10, 12, 13.", and then 16; without 10 (document 02, Point 5)
   pub replay_order : numbers (replay_checks s sheet) ≡ 2 ∷ 3 ∷ 4 ∷ 5 ∷ 6 ∷ 7 ∷ 8 ∷ 9 ∷ 12 ∷ 13 ∷ 16 ∷ []
@@ -72,18 +70,18 @@ module _ (s sheet : List ℕ) where
 
 -- ---- a counted run, from the answer
 
-pub accepted-file : (s sheet : List ℕ) (u d l : ℕ) → replaying_of s sheet ≡ Counted u d l → reading_of s ≡ Accepted (cache_blocks s) (task_count s)
+pub accepted-file : (s sheet : List ℕ) (u d l : ℕ) → replaying_of s sheet ≡ Ok (counted u d l) → reading_of s ≡ Ok (counts_of s)
 accepted-file s sheet u d l e = reading s (passing_accepted s (then_passed (file_check s) _ (sym (replay_parts s sheet) ∙ go (replay_check s sheet) refl)).0)
   where
-    go : (c : Check) → replay_check s sheet ≡ c → replay_check s sheet ≡ Passed
-    go Passed q = q
-    go (Failed c a) q =
-        let x : ◌≡◌ {A = Replaying} (Refused c a) (Counted u d l) = sym (answer-by s sheet (Failed c a) q) ∙ e in
+    go : (c : Checked) → replay_check s sheet ≡ c → replay_check s sheet ≡ Ok tt
+    go (Ok tt) q = q
+    go (Err r) q =
+        let x : ◌≡◌ {A = Result Counted Refusal} (Err r) (Ok (counted u d l)) = sym (answer-by s sheet (Err r) q) ∙ e in
         let z : ◌≡◌ {A = ℕ} 0 1 = cc in
         absurd (omega arith)
 
-pub replayed : (s : List ℕ) → All (λ (x : ℕ). x < 256) s → (sheet : List ℕ) (u d l : ℕ) → replaying_of s sheet ≡ Counted u d l → Replayed s sheet u d l
-replayed s h sheet u d l e = (subst (λ (x : Replaying). ReplayVerdict s sheet x) e (replay_verdict s sheet h)).1
+pub replayed : (s : List ℕ) → All (λ (x : ℕ). x < 256) s → (sheet : List ℕ) (u d l : ℕ) → replaying_of s sheet ≡ Ok (counted u d l) → Replayed s sheet u d l
+replayed s h sheet u d l e = (subst (λ (x : Result Counted Refusal). ReplayVerdict s sheet x) e (replay_verdict s sheet h)).1
 
 -- demand 3 of what Replay answers; document 02, Point 5: "That number is what a pair number bounds in sum", and "D .. still never passes U plus the sum."
 pub record ReplayBounded (s sheet : List ℕ) (u d l : ℕ) : Type 0 where
@@ -91,21 +89,21 @@ pub record ReplayBounded (s sheet : List ℕ) (u d l : ℕ) : Type 0 where
   pub lost : l ≤ pair_sum (file_cache s) (tasks_of s) is.run.p is.run.preemptions
   pub upper : d ≤ u + pair_sum (file_cache s) (tasks_of s) is.run.p is.run.preemptions
 
-pub replay_bounded : (s : List ℕ) → All (λ (x : ℕ). x < 256) s → (sheet : List ℕ) (u d l : ℕ) → replaying_of s sheet ≡ Counted u d l → ReplayBounded s sheet u d l
+pub replay_bounded : (s : List ℕ) → All (λ (x : ℕ). x < 256) s → (sheet : List ℕ) (u d l : ℕ) → replaying_of s sheet ≡ Ok (counted u d l) → ReplayBounded s sheet u d l
 replay_bounded s h sheet u d l e =
     let x = replayed s h sheet u d l e in
-    let b = (file-demand_3 s h (cache_blocks s) (task_count s) (accepted-file s sheet u d l e)).bounds x.run in
+    let b = (file-demand_3 s h (counts_of s) (accepted-file s sheet u d l e)).bounds x.run in
     record { is = x; lost = omega (arith, x.lost, b.lost); upper = omega (arith, x.undisturbed, x.disturbed, b.upper) }
 
 -- ---- a run of an accepted file that a sheet can hold: the answer, and that its numbers are of two bytes
 
 pub run-replayed : (s : List ℕ) → accepted (reading_of s) ≡ true → (run : DisturbedRun (tasks_of s)) → Fits (tasks_of s) run
-    → replaying_of s (sheet_numbers (sheet_run (tasks_of s) run)) ≡ Counted (U (file_cache s) run) (D (file_cache s) run) (lost_hits (file_cache s) run)
+    → replaying_of s (sheet_numbers (sheet_run (tasks_of s) run)) ≡ Ok (counted (U (file_cache s) run) (D (file_cache s) run) (lost_hits (file_cache s) run))
 run-replayed s h run f =
     let o = run-sheet (tasks_of s) run f in
     let sheet = sheet_numbers (sheet_run (tasks_of s) run) in
     let q : parse (task_count s) sheet ≡ parsed (sheet_run (tasks_of s) run) = rw (tasks_long s) at o.parses in
-    answer-by s sheet Passed (replay_parts s sheet ∙ rw ((accepted-passed s (cache_blocks s) (task_count s) (reading s h)).0, q, o.complete, o.right, o.unmasked)) ∙ rw q
+    answer-by s sheet (Ok tt) (replay_parts s sheet ∙ rw ((accepted-passed s (counts_of s) (reading s h)).0, q, o.complete, o.right, o.unmasked)) ∙ rw q
 
 module _ (s : List ℕ) (h : accepted (reading_of s) ≡ true) where
   each_below : (p : ℕ) (path : List ℕ) (xs : List Preemption) → p < length (tasks_of s) → length path ≤ longest_path → Each (Preempts (tasks_of s) p path) xs
@@ -131,11 +129,11 @@ module _ (s : List ℕ) (h : accepted (reading_of s) ≡ true) where
   )
     where
       few : task_count s ≤ 8
-      few = (passing s (accepted-passed s (cache_blocks s) (task_count s) (reading s h)).0).t_high
+      few = (passing s (accepted-passed s (counts_of s) (reading s h)).0).t_high
 
   pub sheet_two_bytes : (run : DisturbedRun (tasks_of s)) → Fits (tasks_of s) run → All (λ (x : ℕ). x < 65536) (sheet_numbers (sheet_run (tasks_of s) run))
   sheet_two_bytes run f = (
-    omega (arith, run.there, tasks_long s, (passing s (accepted-passed s (cache_blocks s) (task_count s) (reading s h)).0).t_high),
+    omega (arith, run.there, tasks_long s, (passing s (accepted-passed s (counts_of s) (reading s h)).0).t_high),
     (
       omega (arith, f.short),
       all_join (λ (x : ℕ). x < 65536) run.path (length run.preemptions ∷ preemption_numbers run.preemptions)

@@ -12,14 +12,14 @@ ghost use Rattle.runs.specs.Running.{held_both, both_first, preempted_both};
 ghost use Rattle.sheet_checks.specs.SheetChecks.{run_in, Passed13};
 ghost use Rattle.replay.specs.Replay.{counted_in};
 
-use crate::Replaying;
-use body::walk;
+use crate::Counted;
+use body::kept_walk;
 use cache::blocks::CacheShape;
-use cache::numbers::count;
 use cache::row::Row;
 use reader::task_body;
 use runs::both_runs::BothRuns;
-use runs::part::{PathPoint, after_part_both, last_point, run_path};
+use runs::part::{FIRST_POINT, Part, PathPoint, last_point, run_path};
+use runs::path::BodyPath;
 use runs::replay_cache::ReplayCache;
 
 // Both runs at first, with two empty caches.
@@ -61,35 +61,43 @@ fn preempted(file: &[u8], j: usize, path: &[u16], shape: CacheShape, runs: BothR
 
 // The three counts. The run goes from point to point: `from` is the point that is reached, and the next preemption begins at `at`. Own references
 // are made in both runs, from two empty caches.
-pub fn run_counts(file: &[u8], sheet: &[u16], shape: CacheShape) -> Replaying
+pub fn run_counts(file: &[u8], sheet: &[u16], shape: CacheShape) -> Counted
     requires { Passed13 file.now sheet.now × (shape ≡ file_shape file.now) }
     ensures { result ≡ counted_in file.now (run_in file.now sheet.now) }
 {
-    let long = count(sheet[1]);
-    let body = task_body(file, count(sheet[0]));
-    let starts = walk(body).starts;
+    let long = usize::from(sheet[1]);
+    let body = task_body(file, usize::from(sheet[0]));
     let path = &sheet[2..2 + long];
+    let walked = kept_walk(body);
+    let starts = &walked.starts;
+    let on = BodyPath { body, starts, path };
     let mut run = empty_runs();
-    let mut from = PathPoint {
-        position: 0,
-        done: 0,
-    };
+    let mut from = FIRST_POINT;
     let mut at = 3 + long;
+    // By place: where the next preemption begins is told by the length of this one's path.
     while at < sheet.len() {
         let to = PathPoint {
-            position: count(sheet[at]),
-            done: count(sheet[at + 1]),
+            position: usize::from(sheet[at]),
+            done: usize::from(sheet[at + 1]),
         };
-        let own = after_part_both(body, &starts, path, from, to, shape, run);
+        let part = Part { on, from, to };
+        let own = part.after_part_both(shape, run);
         let first = at + 4;
-        let next = first + count(sheet[at + 3]);
-        run = preempted(file, count(sheet[at + 2]), &sheet[first..next], shape, own);
+        let next = first + usize::from(sheet[at + 3]);
+        run = preempted(
+            file,
+            usize::from(sheet[at + 2]),
+            &sheet[first..next],
+            shape,
+            own,
+        );
         from = to;
         at = next;
     }
-    let last = last_point(body, &starts, path);
-    let all = after_part_both(body, &starts, path, from, last, shape, run);
-    Replaying::Counted {
+    let to = last_point(&on);
+    let rest = Part { on, from, to };
+    let all = rest.after_part_both(shape, run);
+    Counted {
         undisturbed: all.undisturbed.misses,
         disturbed: all.disturbed.misses,
         lost: all.lost,

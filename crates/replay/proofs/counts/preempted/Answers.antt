@@ -30,7 +30,7 @@ run_path-by-requires c =
         kept = body_kept file start.args.j at part;
         below = subst (λ (t : Task). All (λ b. b < length t) start.args.path.now) (sym (body-task file start.args.j at part)) start.requires.3;
       },
-      file-holds 32 (omega arith) file (accepted-passed file _ _ (reading file start.requires.0)).0 start.requires.2,
+      file-holds 32 (omega arith) file (accepted-passed file _ (reading file start.requires.0)).0 start.requires.2,
       start.requires.4,
       omega (arith, start.requires.5),
     )
