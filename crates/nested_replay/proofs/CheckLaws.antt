@@ -26,27 +26,23 @@ use Rattle.runs.specs.Parts.{references_at}
 use Rattle.sheet.proofs.CompletePaths.{complete-blocks}
 use Rattle.nested_sheet.specs.NestedSheet.{ListInRules}
 use Rattle.nested_sheet.specs.NestedRuns.{task_at, path_at, count_at, list_start, ListAt, with_run, list_of, own_list, run_right, list_right, list_unmasked}
-use Rattle.nested_replay.specs.declared.checks.Checked.{Checked}
-use Rattle.nested_replay.specs.declared.checks.Checked.TheVariants.{Wrong, Right}
-use Rattle.nested_replay.specs.Passes.{checked_of, with_first, checked_run, checked_list, RunReads}
+use Rattle.std.specs.Prelude.{Option, Some, None}
+use Rattle.nested_replay.specs.declared.checks.Right.{Right}
+use Rattle.nested_replay.specs.Passes.{right_at, checked_of, with_first, checked_run, checked_list, RunReads}
 use Rattle.nested_replay.proofs.SheetLists.{list-next, list_grows}
 use Rattle.nested_replay.proofs.RunParts.{path_part, part_path, its_list, run-task, run-kept}
 
 -- ---- two parts of a list
 
-pub first-unmasked : (x : Checked) → x ≡ with_first true x
-first-unmasked Wrong = refl
-first-unmasked (Right next unmasked) = refl
+abbrev tag : Option Right → ℕ
+tag None = 0
+tag (Some r) = 1
 
-abbrev tag : Checked → ℕ
-tag Wrong = 0
-tag (Right next unmasked) = 1
-
-pub told_right : (b u : Bool) (n : ℕ) {next : ℕ} {m : Bool} → Right next m ≡ checked_of b u n → (b ≡ true) × (m ≡ u) × (next ≡ n)
-told_right true u n e = (refl, cc, cc)
+pub told_right : (b u : Bool) (n : ℕ) {r : Right} → Some r ≡ checked_of b u n → (b ≡ true) × (r.unmasked ≡ u) × (r.next ≡ n)
+told_right true u n {r} e = let q : r ≡ right_at n u = cc in (refl, ap (λ (x : Right). x.unmasked) q, ap (λ (x : Right). x.next) q)
 told_right false u n e = absurd (omega (arith, ap tag e))
 
-pub told_wrong : (b u : Bool) (n : ℕ) → Wrong ≡ checked_of b u n → b ≡ false
+pub told_wrong : (b u : Bool) (n : ℕ) → None ≡ checked_of b u n → b ≡ false
 told_wrong true u n e = absurd (omega (arith, ap tag e))
 told_wrong false u n e = refl
 
@@ -102,7 +98,7 @@ module _ (s sheet : List ℕ) (t : Task) (path : Path) (deep left at : ℕ) (h :
   path' = path_at sheet (at + 2)
 
   -- what is told of the list, by the tests of its first point and of the run there
-  abbrev told : Bool → Bool → Checked
+  abbrev told : Bool → Bool → Option Right
   told d r =
       checked_of (d && (r && list_right (tasks_of s) t path rest.runs))
       (unmasked t (get_or path (get_or sheet at 0) 0) && (list_unmasked (tasks_of s) (task (tasks_of s) by) path' own.runs && list_unmasked (tasks_of s) t path rest.runs))
@@ -139,30 +135,30 @@ module _ (s sheet : List ℕ) (t : Task) (path : Path) (deep left at : ℕ) (h :
       done_told : b ≡ right_done (references_at t path (get_or sheet at 0)) (get_or sheet (at + 1) 0)
       done_told = eb ∙ ap₂ (λ (x y : ℕ). right_done (references_at t path x) y) eq ed
 
-      pub done-wrong : b ≡ false → Wrong ≡ checked_list s t path (list_of deep sheet left at)
+      pub done-wrong : b ≡ false → None ≡ checked_list s t path (list_of deep sheet left at)
       done-wrong e = ap (λ (x : Bool). told x (run_right (tasks_of s) by path' own.runs)) (sym e ∙ done_told) ∙ sym whole
 
       module _ (e : b ≡ true) where
         right : right_done (references_at t path (get_or sheet at 0)) (get_or sheet (at + 1) 0) ≡ true
         right = sym done_told ∙ e
 
-        pub run-wrong : Wrong ≡ checked_run s sheet (deep - 1) (at + 2) → Wrong ≡ checked_list s t path (list_of deep sheet left at)
+        pub run-wrong : None ≡ checked_run s sheet (deep - 1) (at + 2) → None ≡ checked_list s t path (list_of deep sheet left at)
         run-wrong w = ap₂ told (sym right) (sym (told_wrong (run_right (tasks_of s) by path' own.runs) _ _ w)) ∙ sym whole
 
-        module _ {next : ℕ} {m : Bool} (er : Right next m ≡ checked_run s sheet (deep - 1) (at + 2)) where
-          run_is : (run_right (tasks_of s) by path' own.runs ≡ true) × (m ≡ list_unmasked (tasks_of s) (task (tasks_of s) by) path' own.runs) × (next ≡ own.next)
+        module _ {f : Right} (er : Some f ≡ checked_run s sheet (deep - 1) (at + 2)) where
+          run_is : (run_right (tasks_of s) by path' own.runs ≡ true) × (f.unmasked ≡ list_unmasked (tasks_of s) (task (tasks_of s) by) path' own.runs) × (f.next ≡ own.next)
           run_is = told_right (run_right (tasks_of s) by path' own.runs) _ _ er
 
-          pub rest-rules : ListInRules (task_count s) (length path) (list_of deep sheet (left - 1) next).runs
+          pub rest-rules : ListInRules (task_count s) (length path) (list_of deep sheet (left - 1) f.next).runs
           rest-rules = rw run_is.2 first-rules.3
 
-          pub rest-within : (list_of deep sheet (left - 1) next).next ≤ length sheet
+          pub rest-within : (list_of deep sheet (left - 1) f.next).next ≤ length sheet
           rest-within = rw run_is.2 rest-ends
 
-          pub all_told : {p : Bool} {x y z : Checked} → x ≡ checked_list s t path (list_of deep sheet (left - 1) next) → p ≡ unmasked t (get_or path q 0)
-              → y ≡ with_first m x → z ≡ with_first p y → z ≡ checked_list s t path (list_of deep sheet left at)
+          pub all_told : {p : Bool} {x y z : Option Right} → x ≡ checked_list s t path (list_of deep sheet (left - 1) f.next) → p ≡ unmasked t (get_or path q 0)
+              → y ≡ with_first f.unmasked x → z ≡ with_first p y → z ≡ checked_list s t path (list_of deep sheet left at)
           all_told {p} ex ep ey ez =
-              ez ∙ ap (with_first p) (ey ∙ ap (with_first m) (ex ∙ ap (λ (n : ℕ). checked_list s t path (list_of deep sheet (left - 1) n)) run_is.2))
+              ez ∙ ap (with_first p) (ey ∙ ap (with_first f.unmasked) (ex ∙ ap (λ (n : ℕ). checked_list s t path (list_of deep sheet (left - 1) n)) run_is.2))
               ∙ ap₂ (λ (p m : Bool). with_first p (with_first m (checked_list s t path rest))) (ep ∙ ap (λ (x : ℕ). unmasked t (get_or path x 0)) eq) run_is.1
               ∙ three_told _ _ _ _ (list_right (tasks_of s) t path rest.runs) (list_unmasked (tasks_of s) t path rest.runs) rest.next right run_is.0
               ∙ sym whole
@@ -174,7 +170,7 @@ module _ (s sheet : List ℕ) (deep at : ℕ) (h : RunReads s sheet deep at) {y 
   part = path_part sheet at k
 
   -- what is told of the run, by the test of its path
-  abbrev by-path : Bool → Checked
+  abbrev by-path : Bool → Option Right
   by-path x =
       checked_of (x && list_right (tasks_of s) (task (tasks_of s) (task_at sheet at)) (path_at sheet at) (own_list deep sheet at).runs)
       (list_unmasked (tasks_of s) (task (tasks_of s) (task_at sheet at)) (path_at sheet at) (own_list deep sheet at).runs) (own_list deep sheet at).next
@@ -183,7 +179,7 @@ module _ (s sheet : List ℕ) (deep at : ℕ) (h : RunReads s sheet deep at) {y 
     path_told : complete_path (task (tasks_of s) (task_at sheet at)) (path_at sheet at) ≡ b
     path_told = sym (ec ∙ ap₂ complete_path (run-task s sheet deep at h ey eb) (part_path sheet at ek))
 
-    pub path-wrong : b ≡ false → Wrong ≡ checked_run s sheet deep at
+    pub path-wrong : b ≡ false → None ≡ checked_run s sheet deep at
     path-wrong e = ap by-path (sym (path_told ∙ e))
 
     module _ (e : b ≡ true) where
@@ -198,7 +194,7 @@ module _ (s sheet : List ℕ) (deep at : ℕ) (h : RunReads s sheet deep at) {y 
         pub list-ends : (list_of deep sheet c (at + 2 + k + 1)).next ≤ length sheet
         list-ends = rw (its_list sheet deep at ek en) h.ends
 
-        pub list_told : {x : Checked} → x ≡ checked_list s (task_of (decode body)) part (list_of deep sheet c (at + 2 + k + 1)) → x ≡ checked_run s sheet deep at
+        pub list_told : {x : Option Right} → x ≡ checked_list s (task_of (decode body)) part (list_of deep sheet c (at + 2 + k + 1)) → x ≡ checked_run s sheet deep at
         list_told ex =
             ex ∙ ap (checked_list s (task_of (decode body)) part) (its_list sheet deep at ek en)
             ∙ ap₂ (λ (t : Task) (path : Path). checked_list s t path (own_list deep sheet at)) (run-task s sheet deep at h ey eb) (part_path sheet at ek)

@@ -1,6 +1,8 @@
 -- What Nested replay answers is the verdict of the definitions, `nested_verdict`; every nested run of an accepted file that a sheet can hold has its answer,
 -- `nested_replayed`, and its sheet has two-byte numbers, `nested_two_bytes`.
 -- The idea: the checks of the file are the reader's; checks 12, 20, 13 and 16 are the tests of the sheet, whose run is a nested run.
+use Rattle.std.specs.Prelude.{Result, Ok, Err}
+use Rattle.project.specs.Checklist.{Checked, answered}
 use mathlib.Core.Path.{◌≡◌, refl, sym, ap, subst, ◌∙◌}
 use mathlib.Core.Logic.{◌⊎◌, inl, inr, ◌↔◌}
 use mathlib.Core.Bool.{true}
@@ -15,13 +17,10 @@ use Rattle.model.specs.Tasks.{Path, task}
 use Rattle.model.specs.Nested.{RunList, no_run, a_run, RunsIn, NestedRun, total}
 use Rattle.model.proofs.Membership.{all_join}
 use Rattle.body.proofs.Decoded.{few-references}
-use Rattle.project.specs.declared.answers.Check.{Check}
-use Rattle.project.specs.declared.answers.Check.TheVariants.{Passed}
-use Rattle.project.specs.declared.answers.Check.TheVariants.{Refused as Failed}
-use Rattle.project.specs.declared.answers.Reading.TheVariants.{Accepted}
-use Rattle.project.specs.File.{cache_blocks, task_count}
+use Rattle.project.specs.declared.answers.Refusal.{Refusal}
+use Rattle.project.specs.File.{task_count}
 use Rattle.project.specs.Checklist.{numbers, Verdict, Agreeing}
-use Rattle.project.specs.Reading.{file_checks, file_check, reading_of}
+use Rattle.project.specs.Reading.{file_checks, file_check, counts_of, reading_of}
 use Rattle.project.specs.Bodies.{accepted}
 use Rattle.project.specs.Tasks.{tasks_of, file_cache}
 use Rattle.project.proofs.Checklists.{verdict_exact, agreeing_append}
@@ -40,9 +39,7 @@ use Rattle.nested_sheet.specs.NestedRuns.{nested_run_of, nested_right, nested_un
 use Rattle.nested_sheet.proofs.Faults.{exact_12, exact_20, fault_is}
 use Rattle.nested_sheet.proofs.Kept.{kept-numbers}
 use Rattle.nested_sheet.proofs.SheetNests.{incomplete_exact, masked_exact, accepted_nested, nested_sheet_lem}
-use Rattle.nested_replay.specs.declared.NestedReplaying.{NestedReplaying}
-use Rattle.nested_replay.specs.declared.NestedReplaying.TheVariants.{Counted, Refused}
-use Rattle.nested_replay.specs.NestedReplay.{nested13, nested16, nested_sheet_checks, nested_sheet_check, nested_checks, nested_check, total_in, pick_nested, nested_replaying_of}
+use Rattle.nested_replay.specs.NestedReplay.{nested13, nested16, nested_sheet_checks, nested_sheet_check, nested_checks, nested_check, total_in, nested_replaying_of}
 use Rattle.nested_replay.specs.NestedVerdict.{NestedReplayed, NestedVerdict}
 use Rattle.nested_replay.proofs.CallLaws.{nested_parts, answer-by, SheetPassed, passed-sheet, passes_by}
 
@@ -82,9 +79,9 @@ module _ (s sheet : List ℕ) where
   pub nested_verdict : All (λ (x : ℕ). x < 256) s → NestedVerdict s sheet (nested_replaying_of s sheet)
   nested_verdict h = go (nested_check s sheet) refl (verdict_exact (nested_checks s sheet) (nested_agreeing h))
     where
-      go : (r : Check) → nested_check s sheet ≡ r → Verdict (nested_checks s sheet) r → NestedVerdict s sheet (pick_nested r (total_in s (nested_run_of sheet)))
-      go Passed e v = (v, its_run (passed-sheet s sheet (then_passed (file_check s) (nested_sheet_check s sheet) (sym (nested_parts s sheet) ∙ e)).1))
-      go (Failed c a) e v = v
+      go : (r : Checked) → nested_check s sheet ≡ r → Verdict (nested_checks s sheet) r → NestedVerdict s sheet (answered r (total_in s (nested_run_of sheet)))
+      go (Ok tt) e v = (v, its_run (passed-sheet s sheet (then_passed (file_check s) (nested_sheet_check s sheet) (sym (nested_parts s sheet) ∙ e)).1))
+      go (Err r) e v = v
 
   -- the file's checks; then 12 and 20, of which one decides; "13 and then 16 follow"
   pub nested_order : numbers (nested_checks s sheet) ≡ 2 ∷ 3 ∷ 4 ∷ 5 ∷ 6 ∷ 7 ∷ 8 ∷ 9 ∷ 12 ∷ 20 ∷ 13 ∷ 16 ∷ []
@@ -92,23 +89,23 @@ module _ (s sheet : List ℕ) where
 
 -- ---- a counted run, from the answer
 
-pub accepted-file : (s sheet : List ℕ) (x : ℕ) → nested_replaying_of s sheet ≡ Counted x → reading_of s ≡ Accepted (cache_blocks s) (task_count s)
+pub accepted-file : (s sheet : List ℕ) (x : ℕ) → nested_replaying_of s sheet ≡ Ok x → reading_of s ≡ Ok (counts_of s)
 accepted-file s sheet x e = reading s (passing_accepted s (then_passed (file_check s) _ (sym (nested_parts s sheet) ∙ go (nested_check s sheet) refl)).0)
   where
-    go : (c : Check) → nested_check s sheet ≡ c → nested_check s sheet ≡ Passed
-    go Passed q = q
-    go (Failed c a) q =
-        let y : ◌≡◌ {A = NestedReplaying} (Refused c a) (Counted x) = sym (answer-by s sheet (Failed c a) q) ∙ e in
+    go : (c : Checked) → nested_check s sheet ≡ c → nested_check s sheet ≡ Ok tt
+    go (Ok tt) q = q
+    go (Err r) q =
+        let y : ◌≡◌ {A = Result ℕ Refusal} (Err r) (Ok x) = sym (answer-by s sheet (Err r) q) ∙ e in
         let z : ◌≡◌ {A = ℕ} 0 1 = cc in
         absurd (omega arith)
 
-pub replayed : (s : List ℕ) → All (λ (x : ℕ). x < 256) s → (sheet : List ℕ) (x : ℕ) → nested_replaying_of s sheet ≡ Counted x → NestedReplayed s sheet x
-replayed s h sheet x e = (subst (λ (y : NestedReplaying). NestedVerdict s sheet y) e (nested_verdict s sheet h)).1
+pub replayed : (s : List ℕ) → All (λ (x : ℕ). x < 256) s → (sheet : List ℕ) (x : ℕ) → nested_replaying_of s sheet ≡ Ok x → NestedReplayed s sheet x
+replayed s h sheet x e = (subst (λ (y : Result ℕ Refusal). NestedVerdict s sheet y) e (nested_verdict s sheet h)).1
 
 -- ---- a run of an accepted file that a sheet can hold: the answer, and that its numbers are of two bytes
 
 pub nested_replayed : (s : List ℕ) → accepted (reading_of s) ≡ true → (run : NestedRun (tasks_of s)) → NestedFits (tasks_of s) run
-    → nested_replaying_of s (nested_sheet (tasks_of s) run) ≡ Counted (total (file_cache s) (empty_row (file_cache s)) run)
+    → nested_replaying_of s (nested_sheet (tasks_of s) run) ≡ Ok (total (file_cache s) (empty_row (file_cache s)) run)
 nested_replayed s h run f =
     let o = nested_sheet_lem (tasks_of s) run f in
     let sheet = nested_sheet (tasks_of s) run in
@@ -117,12 +114,12 @@ nested_replayed s h run f =
       right = ap (nested_right (tasks_of s)) o.reads ∙ o.right;
       unmasked = ap (nested_unmasked (tasks_of s)) o.reads ∙ o.unmasked;
     } in
-    let all : nested_check s sheet ≡ Passed = nested_parts s sheet ∙ rw (accepted-passed s (cache_blocks s) (task_count s) (reading s h)).0 (passes_by s sheet p) in
-    answer-by s sheet Passed all ∙ ap (λ (r : NestedSheetRun). Counted (total_in s r)) o.reads
+    let all : nested_check s sheet ≡ Ok tt = nested_parts s sheet ∙ rw (accepted-passed s (counts_of s) (reading s h)).0 (passes_by s sheet p) in
+    answer-by s sheet (Ok tt) all ∙ ap (λ (r : NestedSheetRun). Ok (total_in s r)) o.reads
 
 module _ (s : List ℕ) (h : accepted (reading_of s) ≡ true) where
   few : task_count s ≤ 8
-  few = (passing s (accepted-passed s (cache_blocks s) (task_count s) (reading s h)).0).t_high
+  few = (passing s (accepted-passed s (counts_of s) (reading s h)).0).t_high
 
   head_below : (p : ℕ) (path : Path) (count : ℕ) (list : List ℕ) → p < length (tasks_of s) → length path ≤ longest_path → All (λ (x : ℕ). x < 65536) path → count ≤ 16
       → All (λ (x : ℕ). x < 65536) list → All (λ (x : ℕ). x < 65536) (with_head p path count list)

@@ -29,12 +29,13 @@ use Rattle.runs.proofs.RunLaws.{walked}
 use Rattle.runs.proofs.Segments.{done_le}
 use Rattle.nested_sheet.specs.NestedRuns.{task_at, path_at, ListAt, list_at, with_run, list_of, own_list, nested_run_of}
 use Rattle.nested_replay.specs.NestedReplay.{total_in}
-use Rattle.task_maps.specs.TaskMaps.{HasStarts}
+use Rattle.task_maps.specs.declared.TaskMap.{TaskMap}
+use Rattle.task_maps.specs.TaskMaps.{no_map, HasMaps}
 use Rattle.nested_replay.specs.Passes.{RunReplays, ListReplays, rest_references, references_from}
 use Rattle.nested_replay.proofs.Rests.{rests_all}
 use Rattle.nested_replay.proofs.SheetLists.{list-next, list_grows}
 use Rattle.nested_replay.proofs.RunParts.{path_part, part_path, its_list, run-stands, run-there, run-kept, run-task}
-use Rattle.nested_replay.proofs.TaskTables.{task_part, starts_part}
+use Rattle.nested_replay.proofs.TaskTables.{map-is}
 use Rattle.nested_replay.proofs.FewReferences.{references-few}
 
 -- ---- a part of a path
@@ -72,11 +73,11 @@ module _ (s : File) (sheet : Sheet) (deep at : ℕ) (x : RunReplays s sheet deep
     same_list_lem : list_of deep sheet n (at + 2 + m + 1) ≡ own_list deep sheet at
     same_list_lem = its_list sheet deep at em en
 
-    -- `starts` has where the blocks of all tasks begin, and the part of the run's task is taken from it
-    pub run_in_lem : (starts : List ℕ) → HasStarts s starts → PathIn body (task_part y starts) (path_part sheet at m)
-    run_in_lem starts h = record {
+    -- where the blocks begin is told by the map of the run's task
+    pub run_in_lem : (maps : List TaskMap) → HasMaps s maps → PathIn body (get_or maps y no_map).starts (path_part sheet at m)
+    run_in_lem maps h = record {
       runs = record { kept = run-kept s sheet deep at x.reads ey eb; below = below same_task same_path };
-      begin = starts_part s x.reads.file (run-there s sheet deep at x.reads ey) eb h;
+      begin = (map-is s x.reads.file (run-there s sheet deep at x.reads ey) eb h).starts;
     }
       where
         below : {t : Task} {path : List ℕ} → t ≡ task (tasks_of s) (task_at sheet at) → path ≡ path_at sheet at → All (λ (b : ℕ). b < length t) path

@@ -1,11 +1,10 @@
 -- For the functions within Nested replay: the pass over all runs for checks 13 and 16, and the pass that makes all references. Definitions only.
-use Rattle.std.specs.Prelude.{◌≡◌, Bool, true, ◌&&◌, cond, List, ◌++◌, ℕ, zero, suc, ◌+◌, ◌*◌, ◌≤◌, ◌<◌, length}
+use Rattle.project.specs.declared.answers.Check.TheVariants.{MaskedPoint, WrongPath}
+use Rattle.project.specs.Checklist.{refusal, Checked}
+use Rattle.std.specs.Prelude.{Option, Some, None, Ok, Err, ◌≡◌, Bool, true, ◌&&◌, cond, List, ◌++◌, ℕ, zero, suc, ◌+◌, ◌*◌, ◌≤◌, ◌<◌, length}
 use Rattle.model.specs.Tasks.{Task, Path, Complete, task}
 use Rattle.model.specs.Runs.{RowCount}
 use Rattle.model.specs.Nested.{RunList, no_run, a_run, RiseFrom, all_references}
-use Rattle.project.specs.declared.answers.Check.{Check}
-use Rattle.project.specs.declared.answers.Check.TheVariants.{Passed}
-use Rattle.project.specs.declared.answers.Check.TheVariants.{Refused as Failed}
 use Rattle.project.specs.File.{File, task_count}
 use Rattle.project.specs.Reading.{reading_of}
 use Rattle.project.specs.Bodies.{accepted}
@@ -15,36 +14,38 @@ use Rattle.runs.specs.Running.{row_count}
 use Rattle.runs.specs.Parts.{references_at, part_of, last_point}
 use Rattle.runs.specs.declared.part.PathPoint.{PathPoint}
 use Rattle.nested_sheet.specs.NestedSheet.{RunInRules, ListInRules, ListRight}
-use Rattle.nested_sheet.specs.NestedRuns.{task_at, path_at, ListAt, own_list, run_right, list_right, list_unmasked, nested_run_of, nested_right, nested_unmasked}
-use Rattle.nested_replay.specs.declared.checks.Checked.{Checked}
-use Rattle.nested_replay.specs.declared.checks.Checked.TheVariants.{Wrong, Right}
+use Rattle.nested_replay.specs.declared.checks.Right.{Right}
 use Rattle.nested_replay.specs.declared.totals.TotalCache.{TotalCache}
+use Rattle.nested_sheet.specs.NestedRuns.{task_at, path_at, ListAt, own_list, run_right, list_right, list_unmasked, nested_run_of, nested_right, nested_unmasked}
 
 -- ---- checks 13 and 16 in one pass
 
 -- what the pass answers of a run or a list: whether it is right, and if so where it ends and whether its points lie in unmasked blocks
-abbrev pub checked_of : Bool → Bool → ℕ → Checked
-checked_of right unmasked next = cond right (Right next unmasked) Wrong
+abbrev pub right_at : ℕ → Bool → Right
+right_at next unmasked = record { next = next; unmasked = unmasked }
+
+abbrev pub checked_of : Bool → Bool → ℕ → Option Right
+checked_of right unmasked next = cond right (Some (right_at next unmasked)) None
 
 -- of two parts of a list, where the first is right: by whether its points lie in unmasked blocks, and by what is told of the other
-abbrev pub with_first : Bool → Checked → Checked
-with_first first Wrong = Wrong
-with_first first (Right next unmasked) = Right next (first && unmasked)
+abbrev pub with_first : Bool → Option Right → Option Right
+with_first first None = None
+with_first first (Some r) = Some (right_at r.next (first && r.unmasked))
 
 -- of the run that begins at `at`
-abbrev pub checked_run : File → Sheet → ℕ → ℕ → Checked
+abbrev pub checked_run : File → Sheet → ℕ → ℕ → Option Right
 checked_run s sheet deep at =
     checked_of (run_right (tasks_of s) (task_at sheet at) (path_at sheet at) (own_list deep sheet at).runs)
     (list_unmasked (tasks_of s) (task (tasks_of s) (task_at sheet at)) (path_at sheet at) (own_list deep sheet at).runs) (own_list deep sheet at).next
 
 -- of a list xs, in a run of the task t along a path
-abbrev pub checked_list : File → Task → Path → ListAt → Checked
+abbrev pub checked_list : File → Task → Path → ListAt → Option Right
 checked_list s t path xs = checked_of (list_right (tasks_of s) t path xs.runs) (list_unmasked (tasks_of s) t path xs.runs) xs.next
 
 -- checks 13 and 16 of the whole sheet, 13 first
-abbrev pub runs_check : File → Sheet → Check
+abbrev pub runs_check : File → Sheet → Checked
 runs_check s sheet =
-    cond (nested_right (tasks_of s) (nested_run_of sheet)) (cond (nested_unmasked (tasks_of s) (nested_run_of sheet)) Passed (Failed 16 255)) (Failed 13 255)
+    cond (nested_right (tasks_of s) (nested_run_of sheet)) (cond (nested_unmasked (tasks_of s) (nested_run_of sheet)) (Ok tt) (Err (refusal MaskedPoint 255))) (Err (refusal WrongPath 255))
 
 -- an accepted file, and a run within a sheet, of which the rules of check 12 hold
 pub record RunReads (s : File) (sheet : Sheet) (deep at : ℕ) : Type 0 where

@@ -1,5 +1,5 @@
 -- What the passes over a nested sheet need of each task of a file, found once. Definitions only.
-use Rattle.std.specs.Prelude.{◌≡◌, List, ℕ, ◌<◌, length, get_or, replicate}
+use Rattle.std.specs.Prelude.{◌≡◌, List, ℕ, ◌<◌, length, get_or, []}
 use Rattle.body.specs.Layout.{Body}
 use Rattle.body.specs.Decode.{decode, task_of}
 use Rattle.body.specs.Walk.{starts_of}
@@ -13,8 +13,9 @@ pub record IsMapOf (b : Body) (m : TaskMap) : Type 0 where
   pub jumps : m.jumps ≡ jump_sets (task_of (decode b))
   pub unmasked : m.unmasked ≡ unmasked_set (task_of (decode b))
 
+-- what stands for the map of a task that a list has none of
 abbrev pub no_map : TaskMap
-no_map = record { starts = replicate 24 0; jumps = replicate 24 0; unmasked = 0 }
+no_map = record { starts = []; jumps = []; unmasked = 0 }
 
 -- the maps of the tasks below j; the places of the others are left open
 pub record MapsBelow (s : File) (j : ℕ) (maps : List TaskMap) : Type 0 where

@@ -1,16 +1,12 @@
--- `checks::joined` meets its contract: a first part in unmasked blocks leaves what is told of the other. Assumes nothing.
-use mathlib.Core.Path.{sym, ap, ap₂, ◌∙◌}
-use Rattle.nested_replay.specs.Passes.{with_first}
-use Rattle.nested_replay.proofs.CheckLaws.{first-unmasked}
+-- `checks::joined` meets its contract: what is told of the other part, with the points of both. Assumes nothing.
+use mathlib.Core.Path.{refl}
 use Rattle.nested_replay.proofs.checks.joined.Goals as goal
 
+pub returns-in_err-next : goal.returns-in_err-next
+returns-in_err-next c = rw c.in_err-next.was c.from_residual.ensures
+
 pub returns-then-first : goal.returns-then-first
-returns-then-first c = first-unmasked c.args.other ∙ ap (λ b. with_first b c.args.other) (sym c.if-first.true)
+returns-then-first c = rw (c.in_ok-next.was, c.if-first.true) refl
 
-pub returns-in-Wrong : goal.returns-in-Wrong
-returns-in-Wrong c = ap (with_first c.args.first) (sym c.in-Wrong.is)
-
-pub returns-in-Right : goal.returns-in-Right
-returns-in-Right c =
-    let k = c in
-    ap₂ with_first (sym k.if-first.false) (sym k.in-Right.is)
+pub returns-else-first : goal.returns-else-first
+returns-else-first c = rw (c.in_ok-next.was, c.if-first.false) refl

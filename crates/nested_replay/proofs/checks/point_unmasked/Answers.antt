@@ -11,4 +11,4 @@ use Rattle.nested_replay.proofs.checks.point_unmasked.Goals as goal
 pub returns : goal.returns
 returns c =
     let set = c.args.set in
-    ap (λ b. not (eqb (bit_and set b) 0)) (one_at 32 c.count-block.result (omega arith)) ∙ ap (in_set set) c.count-block.ensures.0
+    ap (λ b. not (eqb (bit_and set b) 0)) (one_at 32 c.from-block.result (omega arith)) ∙ ap (in_set set) c.from-block.ensures

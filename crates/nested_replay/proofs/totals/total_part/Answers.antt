@@ -9,21 +9,17 @@ use Rattle.nested_replay.proofs.totals.total_part.Goals as goal
 
 pub after_part-own-requires : goal.after_part-own-requires
 after_part-own-requires c =
-    let start = c in
-    let args = start.args in
-    let pre = start.requires in
-    (pre.0, pre.1, pre.2, omega (arith, part_short args.body.now args.starts.now args.path.now pre.0 pre.3 args.from args.to))
+    let part = c.args.part.now in
+    (c.requires.0, omega (arith, part_short part.on.body.now part.on.starts.now part.on.path.now part.on.there c.requires.1 part.from part.to))
 
 pub overflow_add-result : goal.overflow_add-result
 overflow_add-result c =
-    let start = c in
-    let args = start.args in
-    let part = part_of (task_of (decode args.body.now)) args.path.now args.from args.to in
-    omega (arith, part_fits (shaped 32 args.shape) part args.cache.cells args.cache.misses (2 ^ 64) c.after_part-own.ensures start.requires.4)
+    let p = c.args.part.now in
+    let part = part_of (task_of (decode p.on.body.now)) p.on.path.now p.from p.to in
+    omega (arith, c.from.ensures, part_fits (shaped 32 c.args.shape) part c.args.cache.cells c.args.cache.misses (2 ^ 64) c.after_part-own.ensures c.requires.2)
 
 pub returns : goal.returns
 returns c =
-    let start = c in
-    let args = start.args in
-    let part = part_of (task_of (decode args.body.now)) args.path.now args.from args.to in
-    part_added (shaped 32 args.shape) part args.cache.cells args.cache.misses c.after_part-own.ensures
+    let p = c.args.part.now in
+    let part = part_of (task_of (decode p.on.body.now)) p.on.path.now p.from p.to in
+    rw c.from.ensures (part_added (shaped 32 c.args.shape) part c.args.cache.cells c.args.cache.misses c.after_part-own.ensures)

@@ -12,26 +12,26 @@ use Rattle.nested_replay.specs.Passes.{held_total}
 use Rattle.nested_replay.proofs.TotalLaws.{rest_in}
 use Rattle.nested_replay.proofs.totals.total_rest.Goals as goal
 
-pub last_point-end-requires : goal.last_point-end-requires
-last_point-end-requires c = let start = c in (start.requires.0, omega (arith, start.requires.1))
+pub last_point-to-requires : goal.last_point-to-requires
+last_point-to-requires c = omega (arith, c.requires.0)
+
+pub invariant_of-total_part : goal.invariant_of-total_part
+invariant_of-total_part c =
+    let on = c.args.on.now in
+    let t = task_of (decode on.body.now) in
+    record { within = subst (λ (p : PathPoint). PartIn t on.path.now c.args.from p) (sym c.last_point-to.ensures) (rest_in t on.path.now c.args.from c.requires.0 c.requires.1) }
 
 pub total_part-requires : goal.total_part-requires
 total_part-requires c =
-    let start = c in
-    let args = start.args in
-    let t = task_of (decode args.body.now) in
-    let path = args.path.now in
-    let e = c.last_point-end.ensures in (
-      start.requires.0,
-      subst (λ (p : PathPoint). PartIn t path args.from p) (sym e) (rest_in t path args.from start.requires.1 start.requires.2),
-      start.requires.3,
-      start.requires.4,
-      subst (λ (p : PathPoint). args.cache.misses + length (part_of t path args.from p) < 2 ^ 64) (sym e) start.requires.5,
+    let on = c.args.on.now in
+    let t = task_of (decode on.body.now) in (
+      c.requires.2,
+      c.requires.3,
+      subst (λ (p : PathPoint). c.args.cache.misses + length (part_of t on.path.now c.args.from p) < 2 ^ 64) (sym c.last_point-to.ensures) c.requires.4,
     )
 
 pub returns : goal.returns
 returns c =
-    let start = c in
-    let args = start.args in
+    let on = c.args.on.now in
     c.total_part.ensures
-    ∙ ap (λ (p : PathPoint). own_references (shaped 32 args.shape) (held_total args.cache) (part_of (task_of (decode args.body.now)) args.path.now args.from p)) c.last_point-end.ensures
+    ∙ ap (λ (p : PathPoint). own_references (shaped 32 c.args.shape) (held_total c.args.cache) (part_of (task_of (decode on.body.now)) on.path.now c.args.from p)) c.last_point-to.ensures
