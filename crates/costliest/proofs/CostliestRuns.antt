@@ -22,9 +22,10 @@ use Rattle.model.proofs.Most.{masked_zero}
 use Rattle.model.proofs.Width.{pair-width, lost-width}
 use Rattle.model.proofs.Hits.{none-lost}
 use Rattle.model.proofs.Demand.{block-before, inside-before, complete_through, once, split_lost}
-use Rattle.project.specs.declared.answers.Writing.TheVariants.{Written}
+use Rattle.std.specs.Prelude.{Ok}
+use Rattle.project.specs.Writing.{Writing}
 use Rattle.project.specs.File.{cache_blocks, task_count}
-use Rattle.project.specs.Reading.{reading_of}
+use Rattle.project.specs.Reading.{counts_of, reading_of}
 use Rattle.project.specs.Bodies.{accepted}
 use Rattle.project.specs.Tasks.{tasks_of, file_cache_in, file_cache, file_pair}
 use Rattle.project.proofs.TaskFaults.{Bytes}
@@ -50,7 +51,7 @@ module _ (s : List ℕ) (bytes : Bytes s) (ok : accepted (reading_of s) ≡ true
   k = file_cache_in w s
 
   rules : Rules ts
-  rules = file-rules s bytes (cache_blocks s) (task_count s) (reading s ok)
+  rules = file-rules s bytes (counts_of s) (reading s ok)
 
   there : (a : ℕ) → a < task_count s → a < length ts
   there a h = rw (tasks_long s) h
@@ -291,7 +292,7 @@ module _ (s : List ℕ) (bytes : Bytes s) (ok : accepted (reading_of s) ≡ true
     -- the sheet of the run is what was written
     pub written_run : (preempted : Bool) → preempted ≡ ltb 0 x.cost → (final : ℕ) → final ≡ 32 * end (task ts j) + x.ending → {answer : ℕ} {old new : List ℕ}
         → answer ≡ length (sheet_numbers (found_run preempted final))
-        → new ≡ sheet_numbers (found_run preempted final) ++ drop (length (sheet_numbers (found_run preempted final))) old → WrittenRun s i j old (Written answer) new
+        → new ≡ sheet_numbers (found_run preempted final) ++ drop (length (sheet_numbers (found_run preempted final))) old → WrittenRun s i j old (Ok answer) new
     written_run preempted e final place {old = old} long is =
         let (run, costs, same) = joined-run preempted e in
         let run_is : found_run preempted final ≡ sheet_run ts run = ap (found_run preempted) place ∙ sym same in
@@ -299,6 +300,6 @@ module _ (s : List ℕ) (bytes : Bytes s) (ok : accepted (reading_of s) ≡ true
           run = run;
           costliest = costs;
           few = subst (λ (r : SheetRun). length (sheet_numbers r) ≤ costliest_sheet_length) (sym same) (joined-few preempted);
-          answered = ap Written (long ∙ ap (λ (r : SheetRun). length (sheet_numbers r)) run_is);
+          answered = ap {B = Writing} (λ (n : ℕ). Ok n) (long ∙ ap (λ (r : SheetRun). length (sheet_numbers r)) run_is);
           sheet = is ∙ ap (λ (r : SheetRun). sheet_numbers r ++ drop (length (sheet_numbers r)) old) run_is;
         }

@@ -12,14 +12,14 @@ use lib.ListN.{length, get_or}
 use borrow.Author.Tests.{eqb-true, eqb-false, eq-eqb, leb-true, le-leb, ltb-true, ltb-false, lt-ltb, ne_eqb}
 use Rattle.model.specs.Tasks.{task}
 use Rattle.model.specs.States.{Fault11}
+use Rattle.std.specs.Prelude.{Ok, Err}
 use Rattle.project.specs.declared.answers.Check.{Check}
-use Rattle.project.specs.declared.answers.Check.TheVariants.{Passed}
-use Rattle.project.specs.declared.answers.Check.TheVariants.{Refused as Failed}
+use Rattle.project.specs.declared.answers.Check.TheVariants.{TooManyStates}
 use Rattle.project.specs.File.{cache_blocks, task_count}
-use Rattle.project.specs.Checklist.{AllPass, Verdict, numbers, lowest, verdict_of, Agreeing}
+use Rattle.project.specs.Checklist.{refusal, AllPass, Verdict, numbers, Checked, lowest, verdict_of, Agreeing}
 use Rattle.project.specs.Reading.{file_checks}
 use Rattle.project.specs.Tasks.{tasks_of, file_cache_in, file_cache}
-use Rattle.project.proofs.Checklists.{verdict_exact, verdict_unique, passed_computed, then_none, agreeing_append, of_exact}
+use Rattle.project.proofs.Checklists.{ok-not-err, verdict_exact, verdict_unique, passed_computed, then_none, agreeing_append, of_exact}
 use Rattle.project.proofs.TaskFaults.{Bytes}
 use Rattle.project.proofs.Verdicts.{differ_exact, either_exact, file_agreeing}
 use Rattle.reader.proofs.TaskBodies.{passing_accepted, task-body, tasks_long, task-bounds}
@@ -106,7 +106,7 @@ module _ (w : ℕ) (wide_enough : 16 ≤ w) (s : List ℕ) (h : Bytes s) (i j : 
     costliest_verdict = verdict_exact (costliest_checks w s i j first second sheet) costliest_agreeing
 
     -- and no other
-    pub costliest_unique : (r : Check) → Verdict (costliest_checks w s i j first second sheet) r → r ≡ costliest_check w s i j first second sheet
+    pub costliest_unique : (r : Checked) → Verdict (costliest_checks w s i j first second sheet) r → r ≡ costliest_check w s i j first second sheet
     costliest_unique r v = verdict_unique (costliest_checks w s i j first second sheet) r (costliest_check w s i j first second sheet) v costliest_verdict
 
     -- "18, .., after 10; 19, .., after 18; then 11 for the two"
@@ -115,18 +115,22 @@ module _ (w : ℕ) (wide_enough : 16 ≤ w) (s : List ℕ) (h : Bytes s) (i j : 
 
 -- ---- check 11 of the two, as the code makes it
 
-lowest-at : (c from a : ℕ) (tests : List Bool) → get_or tests a false ≡ true → ((b : ℕ) → b < a → get_or tests b false ≡ false) → lowest c from tests ≡ Failed c (from + a)
+lowest-at : (c : Check) (from a : ℕ) (tests : List Bool) → get_or tests a false ≡ true → ((b : ℕ) → b < a → get_or tests b false ≡ false) → lowest c from tests ≡ Err (refusal c (from + a))
 lowest-at c from a [] e none = absurd (false≢true e)
 lowest-at c from zero (test ∷ tests) e none = rw (e, add-zero from)
 lowest-at c from (suc a) (test ∷ tests) e none =
     let z : test ≡ false = none 0 (omega arith) in
-    rw (z, add-suc from a) (lowest-at c (suc from) a tests e (λ b l. none (suc b) (omega arith)) ∙ ap (Failed c) (suc-add from a))
+    rw (z, add-suc from a) (lowest-at c (suc from) a tests e (λ b l. none (suc b) (omega arith)) ∙ ap (λ (k : ℕ). Err (refusal c k)) (suc-add from a))
 
-lowest-none : (c from : ℕ) (tests : List Bool) → ((b : ℕ) → get_or tests b false ≡ false) → lowest c from tests ≡ Passed
+lowest-none : (c : Check) (from : ℕ) (tests : List Bool) → ((b : ℕ) → get_or tests b false ≡ false) → lowest c from tests ≡ Ok tt
 lowest-none c from [] none = refl
 lowest-none c from (test ∷ tests) none =
     let z : test ≡ false = none 0 in
     rw z (lowest-none c (suc from) tests (λ b. none (suc b)))
+
+-- check 11 that names a task
+abbrev named : ℕ → Checked
+named a = Err (refusal TooManyStates a)
 
 -- the lower of two tasks whose tests are `own` and `other`
 module _ (i j : ℕ) (tests : List Bool) (own other : Bool) (ne : j ≢ i) (ei : get_or tests i false ≡ own) (ej : get_or tests j false ≡ other) where
@@ -158,15 +162,15 @@ module _ (i j : ℕ) (tests : List Bool) (own other : Bool) (ne : j ≢ i) (ei :
       go false e true f = let z = eqb-true b j f in ap (λ (n : ℕ). get_or two n false) z ∙ at_j ∙ q (omega arith)
       go false e false f = at_other b (eqb-false b i e) (eqb-false b j f)
 
-  pub two_lowest : lowest 11 0 two ≡ two_check i own j other
+  pub two_lowest : lowest TooManyStates 0 two ≡ two_check i own j other
   two_lowest = go own refl other refl (ltb i j) refl
     where
-      go : (x : Bool) → own ≡ x → (y : Bool) → other ≡ y → (l : Bool) → ltb i j ≡ l → lowest 11 0 two ≡ cond (x && (not y || l)) (Failed 11 i) (cond y (Failed 11 j) Passed)
-      go true p false q l e = lowest-at 11 0 i two (at_i ∙ p) (below i (λ h. absurd (omega arith)) (λ h. q)) ∙ ap (Failed 11) (zero-add i)
-      go true p true q true e = lowest-at 11 0 i two (at_i ∙ p) (below i (λ h. absurd (omega arith)) (λ h. absurd (omega (arith, ltb-true i j e)))) ∙ ap (Failed 11) (zero-add i)
-      go true p true q false e = lowest-at 11 0 j two (at_j ∙ q) (below j (λ h. absurd (omega (arith, ltb-false i j e))) (λ h. absurd (omega arith))) ∙ ap (Failed 11) (zero-add j)
-      go false p true q l e = lowest-at 11 0 j two (at_j ∙ q) (below j (λ h. p) (λ h. absurd (omega arith))) ∙ ap (Failed 11) (zero-add j)
-      go false p false q l e = lowest-none 11 0 two (λ b. below (suc (b + (i + j))) (λ h. p) (λ h. q) b (omega arith))
+      go : (x : Bool) → own ≡ x → (y : Bool) → other ≡ y → (l : Bool) → ltb i j ≡ l → lowest TooManyStates 0 two ≡ cond (x && (not y || l)) (named i) (cond y (named j) (Ok tt))
+      go true p false q l e = lowest-at TooManyStates 0 i two (at_i ∙ p) (below i (λ h. absurd (omega arith)) (λ h. q)) ∙ ap named (zero-add i)
+      go true p true q true e = lowest-at TooManyStates 0 i two (at_i ∙ p) (below i (λ h. absurd (omega arith)) (λ h. absurd (omega (arith, ltb-true i j e)))) ∙ ap named (zero-add i)
+      go true p true q false e = lowest-at TooManyStates 0 j two (at_j ∙ q) (below j (λ h. absurd (omega (arith, ltb-false i j e))) (λ h. absurd (omega arith))) ∙ ap named (zero-add j)
+      go false p true q l e = lowest-at TooManyStates 0 j two (at_j ∙ q) (below j (λ h. p) (λ h. absurd (omega arith))) ∙ ap named (zero-add j)
+      go false p false q l e = lowest-none TooManyStates 0 two (λ b. below (suc (b + (i + j))) (λ h. p) (λ h. q) b (omega arith))
 
 map_at : {A : Type 0} (f : A → Bool) (l : List A) (d : A) (i : ℕ) → i < length l → get_or (map f l) i false ≡ f (get_or l i d)
 map_at f [] d i h = absurd (omega arith)
@@ -178,19 +182,16 @@ pub two_verdict : (w : ℕ) (s : List ℕ) (i j : ℕ) → i < length (tasks_of 
     → own ≡ test11 (file_cache_in w s) (task (tasks_of s) i) → other ≡ test11 (file_cache_in w s) (task (tasks_of s) j) → verdict_of (two_checks w s i j) ≡ two_check i own j other
 two_verdict w s i j hi hj ne {own} {other} e f =
     let tests = map (test11 (file_cache_in w s)) (tasks_of s) in
-    then_none (lowest 11 0 (two_tests w s i j))
+    then_none (lowest TooManyStates 0 (two_tests w s i j))
     ∙ two_lowest i j tests own other ne (map_at (test11 (file_cache_in w s)) (tasks_of s) [] i hi ∙ sym e) (map_at (test11 (file_cache_in w s)) (tasks_of s) [] j hj ∙ sym f)
 
-failed : {c a : ℕ} → Failed c a ≡ Passed → ⊥
-failed e = let z : ◌≡◌ {A = ℕ} 0 1 = cc in absurd (omega arith)
-
 -- neither has one, where it passes
-pub both-passed : (i j : ℕ) (own other : Bool) → two_check i own j other ≡ Passed → (own ≡ false) × (other ≡ false)
+pub both-passed : (i j : ℕ) (own other : Bool) → two_check i own j other ≡ Ok tt → (own ≡ false) × (other ≡ false)
 both-passed i j false false e = (refl, refl)
-both-passed i j false true e = absurd (failed e)
-both-passed i j true false e = absurd (failed e)
+both-passed i j false true e = absurd (ok-not-err (sym e))
+both-passed i j true false e = absurd (ok-not-err (sym e))
 both-passed i j true true e = absurd (go (ltb i j) e)
   where
-    go : (l : Bool) → cond l (Failed 11 i) (Failed 11 j) ≡ Passed → ⊥
-    go true q = failed q
-    go false q = failed q
+    go : (l : Bool) → cond l (named i) (named j) ≡ Ok tt → ⊥
+    go true q = ok-not-err (sym q)
+    go false q = ok-not-err (sym q)

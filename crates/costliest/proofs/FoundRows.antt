@@ -12,8 +12,8 @@ use Rattle.model.specs.Tasks.{Task, end, references, task, Rules}
 use Rattle.model.specs.Computed.{same_list, reaching, living}
 use Rattle.model.proofs.OnPath.{to_and_from}
 use Rattle.model.proofs.Sorted.{reaching-rows, living-rows}
-use Rattle.project.specs.File.{cache_blocks, task_count}
-use Rattle.project.specs.Reading.{reading_of}
+use Rattle.project.specs.File.{task_count}
+use Rattle.project.specs.Reading.{counts_of, reading_of}
 use Rattle.project.specs.Bodies.{accepted}
 use Rattle.project.specs.Tasks.{tasks_of, file_cache_in}
 use Rattle.project.proofs.TaskFaults.{Bytes}
@@ -95,7 +95,7 @@ module _ (s : List ℕ) (bytes : Bytes s) (ok : accepted (reading_of s) ≡ true
       → MakesNumber (file_cache_in w s) (task (tasks_of s) i) (task (tasks_of s) j) (held_rows w (take (kind_length w) area) reached)
       (held_rows w (take (kind_length w) (drop (kind_length w) area)) lived) (held_rows w (take (kind_length w) others) ended (end (task (tasks_of s) j))) x
   file-found {area = area} {reached = reached} {lived = lived} {others = others} {ended = ended} own other {k} {t} {end-block = e} {part} cached is ends cut x searched =
-      let rules = file-rules s bytes (cache_blocks s) (task_count s) (reading s ok) in
+      let rules = file-rules s bytes (counts_of s) (reading s ok) in
       let few = (task-bounds s j ok hj).few in
       let some = (task-bounds s j ok hj).some in
       let rows : part ≡ part_of w (take (kind_length w) others) e = cut ∙ end_part w e others (omega (arith, few, some, ends)) in
@@ -111,4 +111,4 @@ pub cut_part : (n a : ℕ) (l : List ℕ) → take (a + n - a) (drop a l) ≡ ta
 cut_part n a l = let e : a + n - a ≡ n = omega arith in rw e
 
 pub few_tasks : (s : List ℕ) → accepted (reading_of s) ≡ true → task_count s ≤ 8
-few_tasks s ok = (passing s (accepted-passed s (cache_blocks s) (task_count s) (reading s ok)).0).t_high
+few_tasks s ok = (passing s (accepted-passed s (counts_of s) (reading s ok)).0).t_high

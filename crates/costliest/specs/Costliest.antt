@@ -1,17 +1,14 @@
 -- Document 02, Point 3, "Show me the run that costs most.", and Points 5 and 6: Costliest run, its checks and its answer, for rows of w places.
 -- Definitions only.
-use Rattle.std.specs.Prelude.{◌≡◌, ◌≢◌, ◌⊎◌, Bool, not, ◌&&◌, ◌||◌, cond, List, [], ◌∷◌, ◌++◌, map, ℕ, suc, ◌≤◌, ◌<◌, eqb, leb, ltb, length, drop}
+use Rattle.std.specs.Prelude.{◌≡◌, ◌≢◌, ◌⊎◌, Bool, not, ◌&&◌, ◌||◌, cond, List, [], ◌∷◌, ◌++◌, map, ℕ, suc, ◌≤◌, ◌<◌, eqb, leb, ltb, length, drop, Ok, Err}
 use Rattle.model.specs.Tasks.{SomeUnmasked, task}
 use Rattle.model.specs.States.{Fault11}
 use Rattle.model.specs.Runs.{DisturbedRun, OnceBy, lost_hits}
-use Rattle.project.specs.declared.answers.Check.{Check}
-use Rattle.project.specs.declared.answers.Check.TheVariants.{Passed}
-use Rattle.project.specs.declared.answers.Check.TheVariants.{Refused as Failed}
-use Rattle.project.specs.declared.answers.Writing.{Writing}
-use Rattle.project.specs.declared.answers.Writing.TheVariants.{Written, Refused}
+use Rattle.project.specs.declared.answers.Check.TheVariants.{ListLength, TooManyStates, SameTasks, SheetLength}
 use Rattle.project.specs.File.{File, task_count}
-use Rattle.project.specs.Checklist.{Entry, one, each, no_task, Of, verdict_of}
+use Rattle.project.specs.Checklist.{Entry, one, each, no_task, refusal, Of, Checked, verdict_of}
 use Rattle.project.specs.Reading.{file_checks}
+use Rattle.project.specs.Writing.{Writing}
 use Rattle.project.specs.Tasks.{tasks_of, file_cache_in, file_cache, file_pair}
 use Rattle.rows.specs.Rows.{Area, area_length}
 use Rattle.graphs.specs.TaskRows.{test11}
@@ -54,22 +51,22 @@ FaultOfTwo s i j a = ((a ≡ i) ⊎ (a ≡ j)) × Of (Fault11 (file_cache s)) []
 
 -- "Checks: 18, .., after 10; 19, .., after 18", in a file of t tasks; without 10 (Point 5)
 abbrev pub asked_checks : ℕ → ℕ → ℕ → Sheet → List Entry
-asked_checks t i j sheet = one 18 no_task (test18 t i j) (Fault18 t i j) ∷ one 19 no_task (test19 sheet) (Fault19 sheet) ∷ []
+asked_checks t i j sheet = one SameTasks no_task (test18 t i j) (Fault18 t i j) ∷ one SheetLength no_task (test19 sheet) (Fault19 sheet) ∷ []
 
 -- "then 11 for the two": it names the lower one at fault
 abbrev pub two_checks : ℕ → File → ℕ → ℕ → List Entry
-two_checks w s i j = each 11 (two_tests w s i j) (FaultOfTwo s i j) ∷ []
+two_checks w s i j = each TooManyStates (two_tests w s i j) (FaultOfTwo s i j) ∷ []
 
 -- check 11 of the two, by whether each has a block with too many states
-abbrev pub two_check : ℕ → Bool → ℕ → Bool → Check
-two_check i own j other = cond (own && (not other || ltb i j)) (Failed 11 i) (cond other (Failed 11 j) Passed)
+abbrev pub two_check : ℕ → Bool → ℕ → Bool → Checked
+two_check i own j other = cond (own && (not other || ltb i j)) (Err (refusal TooManyStates i)) (cond other (Err (refusal TooManyStates j)) (Ok tt))
 
 -- the checks of the call, in its order
 abbrev pub costliest_checks : ℕ → File → ℕ → ℕ → Area → Area → Sheet → List Entry
 costliest_checks w s i j first second sheet =
-    one 1 no_task (test1 w first second) (Fault1 w first second) ∷ (file_checks s ++ (asked_checks (task_count s) i j sheet ++ two_checks w s i j))
+    one ListLength no_task (test1 w first second) (Fault1 w first second) ∷ (file_checks s ++ (asked_checks (task_count s) i j sheet ++ two_checks w s i j))
 
-abbrev pub costliest_check : ℕ → File → ℕ → ℕ → Area → Area → Sheet → Check
+abbrev pub costliest_check : ℕ → File → ℕ → ℕ → Area → Area → Sheet → Checked
 costliest_check w s i j first second sheet = verdict_of (costliest_checks w s i j first second sheet)
 
 -- ---- the run
@@ -89,10 +86,10 @@ pub record WrittenRun (s : File) (i j : ℕ) (old : Sheet) (answer : Writing) (n
   pub run : DisturbedRun (tasks_of s)
   pub costliest : Costliest s i j run
   pub few : length (run_numbers (tasks_of s) run) ≤ costliest_sheet_length
-  pub answered : answer ≡ Written (length (run_numbers (tasks_of s) run))
+  pub answered : answer ≡ Ok (length (run_numbers (tasks_of s) run))
   pub sheet : new ≡ run_numbers (tasks_of s) run ++ drop (length (run_numbers (tasks_of s) run)) old
 
 -- what is answered, and what the sheet holds afterwards, by the verdict of the checks: "Any refusal leaves the sheet untouched"
-abbrev pub CostliestAnswer : Check → File → ℕ → ℕ → Sheet → Writing → Sheet → Type 0
-CostliestAnswer Passed s i j old answer new = WrittenRun s i j old answer new
-CostliestAnswer (Failed c a) s i j old answer new = (answer ≡ Refused c a) × (new ≡ old)
+abbrev pub CostliestAnswer : Checked → File → ℕ → ℕ → Sheet → Writing → Sheet → Type 0
+CostliestAnswer (Ok passed) s i j old answer new = WrittenRun s i j old answer new
+CostliestAnswer (Err r) s i j old answer new = (answer ≡ Err r) × (new ≡ old)

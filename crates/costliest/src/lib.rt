@@ -3,7 +3,7 @@
 
 mod find;
 
-ghost use Rattle.std.specs.Prelude.{◌≡◌, true, false, ◌<◌, ◌≤◌, length};
+ghost use Rattle.std.specs.Prelude.{◌≡◌, Ok, true, false, ◌<◌, ◌≤◌, length};
 ghost use Rattle.cache.specs.Shape.{Holds};
 ghost use Rattle.model.specs.Tasks.{task};
 ghost use Rattle.rows.specs.Rows.{Width, area_length};
@@ -21,7 +21,7 @@ use body::block_count;
 use cache::blocks::CacheShape;
 use cache::numbers::byte_count;
 use find::{TaskTrails, find_rows, find_trails};
-use project::answers::{Check, NO_TASK, Reading, Writing, refused};
+use project::answers::{Check, Refusal};
 use project::head::head;
 use reader::{file_shape, read_bodies, task_body};
 use run_sheet::write_sheet;
@@ -31,36 +31,36 @@ use run_sheet::write_sheet;
 pub const COSTLIEST_SHEET_LENGTH: usize = 2311;
 
 // Checks 18 and 19, in a file of this many tasks.
-fn check_asked(i: usize, j: usize, tasks: usize, sheet: &[u16]) -> Check
+fn check_asked(i: usize, j: usize, tasks: usize, sheet: &[u16]) -> Result<(), Refusal>
     ensures { result ≡ verdict_of (asked_checks tasks i j sheet.now) }
 {
     if i == j || tasks <= i || tasks <= j {
-        return refused(18);
+        return Err(Check::SameTasks.into());
     }
     if sheet.len() < COSTLIEST_SHEET_LENGTH {
-        return refused(19);
+        return Err(Check::SheetLength.into());
     }
-    Check::Passed
+    Ok(())
 }
 
 // Check 11 of two tasks, where `own` and `other` tell whether i and j have a block with too many states: the lower one at fault is named.
-fn check_two(i: usize, own: bool, j: usize, other: bool) -> Check
+fn check_two(i: usize, own: bool, j: usize, other: bool) -> Result<(), Refusal>
     requires { (i < 256) × (j < 256) }
     ensures { result ≡ two_check i own j other }
 {
     if own && (!other || i < j) {
-        return Check::Refused {
-            check: 11,
+        return Err(Refusal {
+            check: Check::TooManyStates,
             task: i as u8,
-        };
+        });
     }
     if other {
-        return Check::Refused {
-            check: 11,
+        return Err(Refusal {
+            check: Check::TooManyStates,
             task: j as u8,
-        };
+        });
     }
-    Check::Passed
+    Ok(())
 }
 
 // Writes the sheet of a run of i that costs the pair number of i preempted by j. The areas hold the states of i and of j, with the trails `own` and
@@ -76,7 +76,7 @@ fn write_run(
     second: &[u16],
     other: TaskTrails,
     sheet: &mut [u16],
-) -> Writing
+) -> Result<usize, Refusal>
     requires { (accepted (reading_of file.now) ≡ true) × (shape ≡ file_shape file.now) × Holds w shape × (test18 (task_count file.now) i j ≡ false)
         × (costliest_sheet_length ≤ length sheet.old)
         × AreaTrails (file_cache_in w file.now) (task (tasks_of file.now) i) first.now own.reached own.lived own.to own.on false
@@ -104,7 +104,7 @@ fn write_run(
     let on = own.on;
     let by = other.to;
     let point = found.point;
-    let length = write_sheet(
+    Ok(write_sheet(
         0 < found.cost,
         i as u16,
         j as u16,
@@ -117,8 +117,7 @@ fn write_run(
         &by,
         32 * end + found.ending,
         sheet,
-    );
-    Writing::Written { length }
+    ))
 }
 
 // The answer for an accepted file, two of its tasks, and a sheet that is long enough: check 11 of the two, and then the run. What the areas hold
@@ -132,7 +131,7 @@ fn run_of_two(
     first: &mut [u16],
     second: &mut [u16],
     sheet: &mut [u16],
-) -> Writing
+) -> Result<usize, Refusal>
     requires { (accepted (reading_of file.now) ≡ true) × (shape ≡ file_shape file.now) × Holds w shape × Width w
         × (test18 (task_count file.now) i j ≡ false) × (costliest_sheet_length ≤ length sheet.old)
         × (length first.old ≡ area_length w) × (length second.old ≡ area_length w) }
@@ -141,10 +140,8 @@ fn run_of_two(
 {
     let own = find_trails(file, shape, w, i, first);
     let other = find_trails(file, shape, w, j, second);
-    match check_two(i, own.full, j, other.full) {
-        Check::Refused { check, task } => Writing::Refused { check, task },
-        Check::Passed => write_run(file, shape, w, i, j, first, own, second, other, sheet),
-    }
+    check_two(i, own.full, j, other.full)?;
+    write_run(file, shape, w, i, j, first, own, second, other, sheet)
 }
 
 // The answer for a file whose first eight bytes passed their checks, with areas of the right length. What they hold afterwards is free.
@@ -155,19 +152,15 @@ fn run_of_bodies(
     first: &mut [u16],
     second: &mut [u16],
     sheet: &mut [u16],
-) -> Writing
-    requires { (head_check file.now ≡ Check.Passed) × (length first.old ≡ area_length 16) × (length second.old ≡ area_length 16) }
+) -> Result<usize, Refusal>
+    requires { (head_check file.now ≡ Ok tt) × (length first.old ≡ area_length 16) × (length second.old ≡ area_length 16) }
     ensures { CostliestAnswer (costliest_check 16 file.now i j first.old second.old sheet.old)
         file.now i j sheet.old result sheet.new
         × (length first.new ≡ area_length 16) × (length second.new ≡ area_length 16) }
 {
-    match read_bodies(file) {
-        Reading::Refused { check, task } => Writing::Refused { check, task },
-        Reading::Accepted { n: _, t } => match check_asked(i, j, byte_count(t), sheet) {
-            Check::Refused { check, task } => Writing::Refused { check, task },
-            Check::Passed => run_of_two(file, file_shape(file), 16, i, j, first, second, sheet),
-        },
-    }
+    let accepted = read_bodies(file)?;
+    check_asked(i, j, byte_count(accepted.t), sheet)?;
+    run_of_two(file, file_shape(file), 16, i, j, first, second, sheet)
 }
 
 // Costliest run: the sheet of a run of task i with one preemption by task j, or with none where i has no unmasked block, that loses as many hits as the
@@ -180,19 +173,14 @@ pub fn costliest_run(
     first: &mut [u16],
     second: &mut [u16],
     sheet: &mut [u16],
-) -> Writing
+) -> Result<usize, Refusal>
     ensures { CostliestAnswer (costliest_check 16 file.now i j first.old second.old sheet.old)
         file.now i j sheet.old result sheet.new
         × (length first.new ≡ length first.old) × (length second.new ≡ length second.old) }
 {
     if first.len() != AREA_LENGTH || second.len() != AREA_LENGTH {
-        return Writing::Refused {
-            check: 1,
-            task: NO_TASK,
-        };
+        return Err(Check::ListLength.into());
     }
-    match head(file) {
-        Check::Refused { check, task } => Writing::Refused { check, task },
-        Check::Passed => run_of_bodies(file, i, j, first, second, sheet),
-    }
+    head(file)?;
+    run_of_bodies(file, i, j, first, second, sheet)
 }

@@ -21,8 +21,9 @@ use Rattle.model.specs.Tasks.{Task, task}
 use Rattle.model.specs.Computed.{reaching, living, pair_number}
 use Rattle.model.proofs.Membership.{eqb_self}
 use Rattle.model.proofs.Width.{pair-width}
-use Rattle.project.specs.declared.answers.Check.TheVariants.{Passed}
-use Rattle.project.specs.declared.answers.Check.TheVariants.{Refused as Failed}
+use Rattle.std.specs.Prelude.{Ok, Err}
+use Rattle.project.specs.declared.answers.Check.TheVariants.{TooManyStates}
+use Rattle.project.specs.Checklist.{refusal}
 use Rattle.project.specs.File.{task_count}
 use Rattle.project.specs.Tasks.{tasks_of, file_shape, file_cache}
 use Rattle.project.proofs.Accepted.{or_false_left}
@@ -87,14 +88,14 @@ module _ (s : List ℕ) (c : Cache) (i : ℕ) (same : (a b : Task) → pair_numb
   abbrev t : Task
   t = task (tasks_of s) i
 
-  next : first_full c i (drop i (tasks_of s)) ≡ cond (test11 c t) (Failed 11 i) (first_full c (i + 1) (drop (i + 1) (tasks_of s)))
+  next : first_full c i (drop i (tasks_of s)) ≡ cond (test11 c t) (Err (refusal TooManyStates i)) (first_full c (i + 1) (drop (i + 1) (tasks_of s)))
   next =
       ap (first_full c i) (drop-cons (tasks_of s) i [] (rw (tasks_long s) below))
-      ∙ ap (λ (k : ℕ). cond (test11 c t) (Failed 11 i) (first_full c k (drop k (tasks_of s)))) (sym (add-one i))
+      ∙ ap (λ (k : ℕ). cond (test11 c t) (Err (refusal TooManyStates i)) (first_full c k (drop k (tasks_of s)))) (sym (add-one i))
 
   -- a task with too many states is the lowest
-  pub stops : {full : Bool} {byte : ℕ} → full ≡ test11 c t → full ≡ true → byte ≡ i → Failed 11 byte ≡ first_full c 0 (tasks_of s)
-  stops e q z = ap (Failed 11) z ∙ sym (rw (sym e ∙ q) at next) ∙ h.left
+  pub stops : {full : Bool} {byte : ℕ} → full ≡ test11 c t → full ≡ true → byte ≡ i → Err (refusal TooManyStates byte) ≡ first_full c 0 (tasks_of s)
+  stops e q z = ap (λ (k : ℕ). Err (refusal TooManyStates k)) z ∙ sym (rw (sym e ∙ q) at next) ∙ h.left
 
   -- the task's own number is set, and its row is lent
   abbrev marked : List ℕ
@@ -198,7 +199,7 @@ module _ (s : List ℕ) (c : Cache) (i : ℕ) (same : (a b : Task) → pair_numb
 -- ---- at the end
 
 module _ (s : List ℕ) (c : Cache) (few : task_count s ≤ 8) (numbers : List ℕ) (h : SoFar s c (task_count s) numbers) where
-  pub ends : Passed ≡ first_full c 0 (tasks_of s)
+  pub ends : Ok tt ≡ first_full c 0 (tasks_of s)
   ends = sym (ap (first_full c (task_count s)) (drop_of_length-le (tasks_of s) {i = task_count s} (rw (tasks_long s) (omega arith)))) ∙ h.left
 
   each-few : (j : ℕ) → j < task_count s → Few c (task (tasks_of s) j)

@@ -2,15 +2,15 @@
 use Rattle.std.specs.Prelude.{not, ◌&&◌, cond, List, [], ◌++◌, map, ℕ, zero, suc, eqb, ltb}
 use Rattle.cache.specs.Cache.{Cache, row_from}
 use Rattle.model.specs.Tasks.{Task}
-use Rattle.project.specs.declared.answers.Check.{Check}
+use Rattle.project.specs.declared.answers.Check.TheVariants.{TooManyStates}
 use Rattle.project.specs.File.{File, task_count}
-use Rattle.project.specs.Checklist.{lowest}
+use Rattle.project.specs.Checklist.{Checked, lowest}
 use Rattle.project.specs.Tasks.{file_pair}
 use Rattle.graphs.specs.TaskRows.{test11}
 
 -- check 11 "names the lowest task at fault", from task j on
-abbrev pub first_full : Cache → ℕ → List Task → Check
-first_full k j ts = lowest 11 j (map (test11 k) ts)
+abbrev pub first_full : Cache → ℕ → List Task → Checked
+first_full k j ts = lowest TooManyStates j (map (test11 k) ts)
 
 -- "place 8i + j gets the pair number of i preempted by j; the diagonal and places of absent tasks get 0": place (i, j)
 abbrev pub entry_of : File → ℕ → ℕ → ℕ

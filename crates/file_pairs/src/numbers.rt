@@ -1,11 +1,10 @@
 // The pair numbers of all tasks of a file, once the end rows of each are known.
-ghost use Rattle.std.specs.Prelude.{◌≡◌, true, List, length, replicate};
+ghost use Rattle.std.specs.Prelude.{◌≡◌, Ok, true, List, length, replicate};
 ghost use Rattle.cache.specs.Shape.{shaped, Holds};
 ghost use Rattle.model.specs.Tasks.{Task};
 ghost use Rattle.rows.specs.Rows.{Width, area_length};
 ghost use Rattle.body.specs.Decode.{decode, task_of};
 ghost use Rattle.body.specs.Walk.{kept_of};
-ghost use Rattle.project.specs.declared.answers.Check.TheVariants.{Passed};
 ghost use Rattle.project.specs.File.{task_count};
 ghost use Rattle.project.specs.Reading.{reading_of};
 ghost use Rattle.project.specs.Bodies.{accepted};
@@ -16,7 +15,7 @@ ghost use Rattle.file_pairs.specs.Found.{EndsFound, NumbersFound};
 
 use cache::blocks::CacheShape;
 use graphs::task_rows::task_rows;
-use project::answers::Check;
+use project::answers::{Check, Refusal};
 use reader::task_body;
 use reader::tasks::task_byte;
 use task_pairs::meet_task;
@@ -75,12 +74,12 @@ pub fn find_numbers(
     counts: &[usize],
     mixed: &[u32],
     numbers: &mut [u16],
-) -> Check
+) -> Result<(), Refusal>
     requires { (accepted (reading_of file.now) ≡ true) × (shape ≡ file_shape file.now) × Holds w shape × Width w × (tasks ≡ task_count file.now)
         × (length area.old ≡ area_length w) × EndsFound (shaped w shape) (tasks_of file.now) tasks ends.now counts.now mixed.now
         × (numbers.old ≡ replicate 64 0) }
     ensures { (length area.new ≡ area_length w) × (result ≡ first_full (shaped w shape) 0 (tasks_of file.now))
-        × (result ≡ Passed → numbers.new ≡ table_of file.now) }
+        × (result ≡ Ok tt → numbers.new ≡ table_of file.now) }
 {
     for i in 0..tasks {
         numbers[9 * i] = 32;
@@ -95,12 +94,12 @@ pub fn find_numbers(
             tasks,
             &mut numbers[8 * i..8 * i + 8],
         ) {
-            return Check::Refused {
-                check: 11,
+            return Err(Refusal {
+                check: Check::TooManyStates,
                 task: task_byte(i),
-            };
+            });
         }
         numbers[9 * i] = 0;
     }
-    Check::Passed
+    Ok(())
 }

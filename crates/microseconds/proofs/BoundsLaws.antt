@@ -6,19 +6,19 @@ use Prim.Native.Nat.{ℕ, ◌*◌, ◌≤◌, ◌<◌}
 use native.Mathlib.Nat.{mul-le-mul}
 use lib.Dec.{ltb}
 use borrow.Author.Tests.{ltb-false}
-use Rattle.project.specs.declared.answers.Check.{Check}
-use Rattle.project.specs.declared.answers.Check.TheVariants.{Passed}
-use Rattle.project.specs.declared.answers.Check.TheVariants.{Refused as Failed}
-use Rattle.project.specs.Checklist.{no_task}
+use Rattle.std.specs.Prelude.{Ok, Err}
+use Rattle.project.specs.declared.answers.Check.TheVariants.{OutOfBounds}
+use Rattle.project.specs.declared.answers.Refusal.{Refusal}
+use Rattle.project.specs.Checklist.{no_task, refusal, Checked, answered}
 use Rattle.project.proofs.Accepted.{unless-passed, or_false_left, or_false_right}
 use Rattle.project.specs.Reading.{outside}
-use Rattle.microseconds.specs.Microseconds.{largest_number, largest_penalty, largest_clock, test17, microseconds_check, whole, remainder, pick_timing, timing_of}
+use Rattle.microseconds.specs.Microseconds.{largest_number, largest_penalty, largest_clock, test17, microseconds_check, time_of, timing_of}
 
 -- what check 17 answers, by its test
-pub at_17 : (number penalty clock : ℕ) → test17 number penalty clock ≡ true → microseconds_check number penalty clock ≡ Failed 17 255
-at_17 number penalty clock e = rw e
+pub at_17 : (number penalty clock : ℕ) {r : Refusal} → r ≡ refusal OutOfBounds no_task → test17 number penalty clock ≡ true → Err r ≡ microseconds_check number penalty clock
+at_17 number penalty clock q e = rw (q, e)
 
-pub at_none : (number penalty clock : ℕ) → test17 number penalty clock ≡ false → microseconds_check number penalty clock ≡ Passed
+pub at_none : (number penalty clock : ℕ) → test17 number penalty clock ≡ false → Ok tt ≡ microseconds_check number penalty clock
 at_none number penalty clock e = rw e
 
 -- what is used of check 17's passing
@@ -27,9 +27,9 @@ pub record Within (number penalty clock : ℕ) : Type 0 where
   pub penalty_high : penalty ≤ largest_penalty
   pub clock_low : 0 < clock
 
-pub within : (number penalty clock : ℕ) → microseconds_check number penalty clock ≡ Passed → Within number penalty clock
+pub within : (number penalty clock : ℕ) → microseconds_check number penalty clock ≡ Ok tt → Within number penalty clock
 within number penalty clock e =
-    let none = (unless-passed 17 no_task (test17 number penalty clock) Passed e).0 in
+    let none = (unless-passed OutOfBounds no_task (test17 number penalty clock) (Ok tt) e).0 in
     let in-penalty = or_false_left (outside largest_penalty penalty) (outside largest_clock clock || ltb largest_number number) none in
     let others = or_false_right (outside largest_penalty penalty) (outside largest_clock clock || ltb largest_number number) none in
     let in-clock = or_false_left (outside largest_clock clock) (ltb largest_number number) others in
@@ -44,7 +44,5 @@ pub cycles_le : {number penalty clock : ℕ} → Within number penalty clock →
 cycles_le w = mul-le-mul w.number_high w.penalty_high
 
 -- the answer, by what the check says
-pub answer-by :
-    (number penalty clock : ℕ) {r : Check} → microseconds_check number penalty clock ≡ r →
-    pick_timing r (whole number penalty clock) (remainder number penalty clock) ≡ timing_of number penalty clock
-answer-by number penalty clock e = sym (ap (λ (c : Check). pick_timing c (whole number penalty clock) (remainder number penalty clock)) e)
+pub answer-by : (number penalty clock : ℕ) {r : Checked} → microseconds_check number penalty clock ≡ r → answered r (time_of number penalty clock) ≡ timing_of number penalty clock
+answer-by number penalty clock e = sym (ap (λ (c : Checked). answered c (time_of number penalty clock)) e)

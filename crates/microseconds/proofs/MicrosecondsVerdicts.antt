@@ -7,16 +7,13 @@ use mathlib.Core.List.{[], ◌∷◌}
 use Prim.Native.Nat.{ℕ}
 use lib.Dec.{ltb}
 use borrow.Author.Tests.{ltb-true, lt-ltb}
-use Rattle.project.specs.declared.answers.Check.{Check}
-use Rattle.project.specs.declared.answers.Check.TheVariants.{Passed}
-use Rattle.project.specs.declared.answers.Check.TheVariants.{Refused as Failed}
-use Rattle.project.specs.Checklist.{numbers, Verdict, Agreeing}
+use Rattle.std.specs.Prelude.{Ok, Err}
+use Rattle.project.specs.Checklist.{numbers, Verdict, Agreeing, Checked, answered}
 use Rattle.project.proofs.Checklists.{verdict_exact, verdict_unique}
 use Rattle.project.proofs.Verdicts.{outside_exact, either_exact}
 use Rattle.project.specs.Reading.{outside}
-use Rattle.microseconds.specs.declared.Timing.{Timing}
-use Rattle.microseconds.specs.declared.Timing.TheVariants.{Timed, Refused}
-use Rattle.microseconds.specs.Microseconds.{largest_number, largest_penalty, largest_clock, Fault17, test17, microseconds_checks, microseconds_check, whole, remainder, pick_timing, timing_of, MicrosecondsVerdict}
+use Rattle.microseconds.specs.declared.Time.{Time}
+use Rattle.microseconds.specs.Microseconds.{largest_number, largest_penalty, largest_clock, Fault17, test17, microseconds_checks, microseconds_check, Timing, time_of, timing_of, MicrosecondsVerdict}
 use Rattle.microseconds.proofs.Times.{exact_time, exact_time_only}
 use Rattle.microseconds.proofs.BoundsLaws.{within, answer-by}
 
@@ -42,20 +39,24 @@ module _ (number penalty clock : ℕ) where
   microseconds_verdict = go (microseconds_check number penalty clock) refl (verdict_exact (microseconds_checks number penalty clock) microseconds_agreeing)
     where
       go :
-          (r : Check) → microseconds_check number penalty clock ≡ r → Verdict (microseconds_checks number penalty clock) r →
-          MicrosecondsVerdict number penalty clock (pick_timing r (whole number penalty clock) (remainder number penalty clock))
-      go Passed e v = (v, exact_time number penalty clock (within number penalty clock e).clock_low)
-      go (Failed c a) e v = v
+          (r : Checked) → microseconds_check number penalty clock ≡ r → Verdict (microseconds_checks number penalty clock) r →
+          MicrosecondsVerdict number penalty clock (answered r (time_of number penalty clock))
+      go (Ok x) e v = (v, exact_time number penalty clock (within number penalty clock e).clock_low)
+      go (Err x) e v = v
 
   -- what is computed is the only verdict of the checks
-  only : (r : Check) → Verdict (microseconds_checks number penalty clock) r → microseconds_check number penalty clock ≡ r
+  only : (r : Checked) → Verdict (microseconds_checks number penalty clock) r → microseconds_check number penalty clock ≡ r
   only r v =
       let checks = microseconds_checks number penalty clock in
       verdict_unique checks (microseconds_check number penalty clock) r (verdict_exact checks microseconds_agreeing) v
 
+  -- a time, as an answer
+  abbrev timed : Time → Timing
+  timed x = Ok x
+
   -- no other answer has that verdict
   pub microseconds_unique : (x : Timing) → MicrosecondsVerdict number penalty clock x → x ≡ timing_of number penalty clock
-  microseconds_unique (Refused c a) v = answer-by number penalty clock (only (Failed c a) v)
-  microseconds_unique (Timed q r) (v, t) =
+  microseconds_unique (Err r) v = answer-by number penalty clock (only (Err r) v)
+  microseconds_unique (Ok x) (v, t) =
       let (eq, er) = exact_time_only number penalty clock t in
-      ap₂ (λ (x y : ℕ). Timed x y) eq er ∙ answer-by number penalty clock (only Passed v)
+      ap₂ (λ (q r : ℕ). timed (record { whole = q; remainder = r })) eq er ∙ answer-by number penalty clock (only (Ok tt) v)

@@ -3,9 +3,9 @@
 use mathlib.Core.Path.{◌≡◌, refl}
 use Prim.Native.Nat.{ℕ, ◌*◌}
 use native.Mathlib.Omega.{arith}
-use Rattle.microseconds.specs.declared.Timing.TheVariants.{Timed}
+use Rattle.std.specs.Prelude.{Ok}
 use Rattle.microseconds.specs.Microseconds.{timing_of}
 
 -- "q × clock is the whole product"
-pub not_without_remainder : ((number penalty clock q r : ℕ) → timing_of number penalty clock ≡ Timed q r → q * clock ≡ number * penalty * 1000) → ⊥
+pub not_without_remainder : ((number penalty clock q r : ℕ) → timing_of number penalty clock ≡ Ok (record { whole = q; remainder = r }) → q * clock ≡ number * penalty * 1000) → ⊥
 not_without_remainder h = let e = h 1 1 3 333 1 refl in omega arith

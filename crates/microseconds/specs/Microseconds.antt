@@ -1,13 +1,11 @@
 -- Document 02, Point 2: microseconds. Definitions only.
-use Rattle.std.specs.Prelude.{◌≡◌, ◌⊎◌, Bool, ◌||◌, List, [], ◌∷◌, ℕ, ◌+◌, ◌*◌, ◌/◌, ◌%◌, ◌<◌, ltb}
-use Rattle.project.specs.declared.answers.Check.{Check}
-use Rattle.project.specs.declared.answers.Check.TheVariants.{Passed}
-use Rattle.project.specs.declared.answers.Check.TheVariants.{Refused as Failed}
+use Rattle.std.specs.Prelude.{◌≡◌, ◌⊎◌, Bool, ◌||◌, List, [], ◌∷◌, ℕ, ◌+◌, ◌*◌, ◌/◌, ◌%◌, ◌<◌, ltb, Result, Ok, Err}
+use Rattle.project.specs.declared.answers.Check.TheVariants.{OutOfBounds}
+use Rattle.project.specs.declared.answers.Refusal.{Refusal}
 use Rattle.project.specs.Checks.{Outside}
 use Rattle.project.specs.Reading.{outside}
-use Rattle.project.specs.Checklist.{Entry, one, no_task, AllPass, FirstFault, verdict_of}
-use Rattle.microseconds.specs.declared.Timing.{Timing}
-use Rattle.microseconds.specs.declared.Timing.TheVariants.{Timed, Refused}
+use Rattle.project.specs.Checklist.{number_of, Entry, one, no_task, AllPass, FirstFault, Checked, verdict_of, answered}
+use Rattle.microseconds.specs.declared.Time.{Time}
 
 -- "a number over 16"
 abbrev pub largest_number : ℕ
@@ -39,9 +37,9 @@ test17 number penalty clock = outside largest_penalty penalty || (outside larges
 
 -- the one check of the call
 abbrev pub microseconds_checks : ℕ → ℕ → ℕ → List Entry
-microseconds_checks number penalty clock = one 17 no_task (test17 number penalty clock) (Fault17 number penalty clock) ∷ []
+microseconds_checks number penalty clock = one OutOfBounds no_task (test17 number penalty clock) (Fault17 number penalty clock) ∷ []
 
-abbrev pub microseconds_check : ℕ → ℕ → ℕ → Check
+abbrev pub microseconds_check : ℕ → ℕ → ℕ → Checked
 microseconds_check number penalty clock = verdict_of (microseconds_checks number penalty clock)
 
 -- q and r
@@ -51,15 +49,17 @@ whole number penalty clock = number * penalty * 1000 / clock
 abbrev pub remainder : ℕ → ℕ → ℕ → ℕ
 remainder number penalty clock = number * penalty * 1000 % clock
 
--- both where the check passes, else the check and the task it names
-abbrev pub pick_timing : Check → ℕ → ℕ → Timing
-pick_timing Passed q r = Timed q r
-pick_timing (Failed c a) q r = Refused c a
+-- what the call answers: both, or the refusal
+abbrev pub Timing : Type 0
+Timing = Result Time Refusal
+
+abbrev pub time_of : ℕ → ℕ → ℕ → Time
+time_of number penalty clock = record { whole = whole number penalty clock; remainder = remainder number penalty clock }
 
 abbrev pub timing_of : ℕ → ℕ → ℕ → Timing
-timing_of number penalty clock = pick_timing (microseconds_check number penalty clock) (whole number penalty clock) (remainder number penalty clock)
+timing_of number penalty clock = answered (microseconds_check number penalty clock) (time_of number penalty clock)
 
 -- ---- what the answer says, in the document's words
 abbrev pub MicrosecondsVerdict : ℕ → ℕ → ℕ → Timing → Type 0
-MicrosecondsVerdict number penalty clock (Refused c a) = FirstFault (microseconds_checks number penalty clock) c a
-MicrosecondsVerdict number penalty clock (Timed q r) = AllPass (microseconds_checks number penalty clock) × ExactTime number penalty clock q r
+MicrosecondsVerdict number penalty clock (Err r) = FirstFault (microseconds_checks number penalty clock) (number_of r.check) r.task
+MicrosecondsVerdict number penalty clock (Ok t) = AllPass (microseconds_checks number penalty clock) × ExactTime number penalty clock t.whole t.remainder

@@ -5,7 +5,7 @@ ghost use Rattle.std.specs.Prelude.{◌≡◌};
 ghost use Rattle.project.specs.Reading.{outside};
 ghost use Rattle.microseconds.specs.Microseconds.{microseconds_check, timing_of};
 
-use project::answers::{Check, refused};
+use project::answers::{Check, Refusal};
 
 // The largest pair number.
 const LARGEST_NUMBER: u32 = 16;
@@ -19,12 +19,11 @@ const LARGEST_CLOCK: u32 = 1000000;
 // The microseconds in which a clock of 1 kHz makes one cycle.
 const KILOHERTZ_CYCLE: u32 = 1000;
 
-// What the call answers: the time is `whole` + `remainder` / clock microseconds, with the remainder below the clock; or check 17, which names
-// no task.
-#[derive(Clone, Copy)]
-pub enum Timing {
-    Timed { whole: u32, remainder: u32 },
-    Refused { check: u8, task: u8 },
+// A time: `whole` + `remainder` / clock microseconds, with the remainder below the clock.
+#[derive(Clone, Copy, PartialEq, Eq)]
+pub struct Time {
+    pub whole: u32,
+    pub remainder: u32,
 }
 
 // Whether a number is outside 1 to the largest.
@@ -35,30 +34,26 @@ fn is_outside(x: u32, largest: u32) -> bool
 }
 
 // Check 17: penalty and clock within their bounds, and no number over the largest.
-fn check_bounds(number: u32, penalty: u32, clock: u32) -> Check
+fn check_bounds(number: u32, penalty: u32, clock: u32) -> Result<(), Refusal>
     ensures { result ≡ microseconds_check number penalty clock }
 {
     if is_outside(penalty, LARGEST_PENALTY)
         || is_outside(clock, LARGEST_CLOCK)
         || LARGEST_NUMBER < number
     {
-        return refused(17);
+        return Err(Check::OutOfBounds.into());
     }
-    Check::Passed
+    Ok(())
 }
 
 // Microseconds: the time that `number` misses of `penalty` cycles each take at a clock of `clock` kHz, or check 17, which comes before any
 // arithmetic.
-pub fn microseconds(number: u32, penalty: u32, clock: u32) -> Timing
+pub fn microseconds(number: u32, penalty: u32, clock: u32) -> Result<Time, Refusal>
     ensures { result ≡ timing_of number penalty clock }
 {
-    match check_bounds(number, penalty, clock) {
-        Check::Refused { check, task } => Timing::Refused { check, task },
-        Check::Passed => {
-            let product = number * penalty * KILOHERTZ_CYCLE;
-            let whole = product / clock;
-            let remainder = product % clock;
-            Timing::Timed { whole, remainder }
-        }
-    }
+    check_bounds(number, penalty, clock)?;
+    let product = number * penalty * KILOHERTZ_CYCLE;
+    let whole = product / clock;
+    let remainder = product % clock;
+    Ok(Time { whole, remainder })
 }

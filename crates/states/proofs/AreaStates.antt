@@ -1,6 +1,6 @@
 -- After an accepting call the rows of a block in the area are exactly those that paths make, in dictionary order.
 -- The idea, for rows of every width: the area is made of parts of known length, so each block's rows and count are read where they were put.
-use mathlib.Core.Path.{◌≡◌, refl, sym, ap, ap₂, subst, ◌∙◌}
+use mathlib.Core.Path.{◌≡◌, sym, ap, ap₂, subst, ◌∙◌}
 use mathlib.Core.Logic.{◌↔◌}
 use mathlib.Core.Bool.{Bool, true, false, cond}
 use mathlib.Core.List.{List, ◌∷◌, ◌++◌, append_assoc}
@@ -24,14 +24,11 @@ use Rattle.rows.specs.Rows.{rows_of, part_of, flat, kind_length, count_start}
 use Rattle.rows.proofs.Parts.{after_first}
 use Rattle.gather.specs.Graph.{too_many}
 use Rattle.graphs.specs.TaskRows.{test11}
-use Rattle.project.specs.declared.answers.Check.{Check}
-use Rattle.project.specs.declared.answers.Check.TheVariants.{Passed}
-use Rattle.project.specs.declared.answers.Check.TheVariants.{Refused as Failed}
-use Rattle.project.specs.declared.answers.Filling.TheVariants.{Filled}
+use Rattle.std.specs.Prelude.{Ok}
+use Rattle.project.specs.declared.answers.Check.TheVariants.{ListLength, TooManyStates, NoSuchTask}
 use Rattle.project.specs.File.{task_count}
-use Rattle.project.specs.Checklist.{no_task, and_then, unless}
+use Rattle.project.specs.Checklist.{no_task}
 use Rattle.project.specs.Reading.{file_check}
-use Rattle.project.specs.Filling.{pick_filling}
 use Rattle.project.specs.Tasks.{tasks_of, file_cache_in}
 use Rattle.project.proofs.Accepted.{unless-passed, then_passed, or_false_left, or_false_right}
 use Rattle.sort.specs.Sorting.{block_part}
@@ -133,12 +130,7 @@ module _ (w : ℕ) (r l : ℕ → List (List ℕ)) (rwide : (b : ℕ) → Wide w
 
 -- ---- an accepting call
 
-passed : (t : Bool) (c : Check) → pick_filling (and_then (unless 1 no_task t) c) ≡ Filled → (t ≡ false) × (c ≡ Passed)
-passed true c e = let z : ◌≡◌ {A = ℕ} 0 1 = cc in absurd (omega arith)
-passed false Passed e = (refl, refl)
-passed false (Failed c a) e = let z : ◌≡◌ {A = ℕ} 0 1 = cc in absurd (omega arith)
-
-module _ (w : ℕ) (s : List ℕ) (j : ℕ) (area : List ℕ) (ok : filling_of w s j area ≡ Filled) where
+module _ (w : ℕ) (s : List ℕ) (j : ℕ) (area : List ℕ) (ok : filling_of w s j area ≡ Ok tt) where
   abbrev its : Task
   its = task (tasks_of s) j
 
@@ -147,16 +139,16 @@ module _ (w : ℕ) (s : List ℕ) (j : ℕ) (area : List ℕ) (ok : filling_of w
 
   pub filled_area : area_after w s j area ≡ area_of k its
   unfolding filling_of area_after
-  filled_area = let (t, c) = passed (test1 w area) (task_check w s j) ok in rw (t, c)
+  filled_area = let (t, c) = unless-passed ListLength no_task (test1 w area) (task_check w s j) ok in rw (t, c)
 
   -- the file is accepted, and check 11 of the task passes
-  filled-passed : (file_check s ≡ Passed) × (test11 k its ≡ false)
+  filled-passed : (file_check s ≡ Ok tt) × (test11 k its ≡ false)
   unfolding filling_of
   filled-passed =
-      let (f, r) = then_passed (file_check s) _ (sym (task-parts w s j) ∙ (passed (test1 w area) (task_check w s j) ok).1) in
-      (f, (unless-passed 11 j (test11 k its) Passed (unless-passed 15 no_task (leb (task_count s) j) _ r).1).0)
+      let (f, r) = then_passed (file_check s) _ (sym (task-parts w s j) ∙ (unless-passed ListLength no_task (test1 w area) (task_check w s j) ok).1) in
+      (f, (unless-passed TooManyStates j (test11 k its) (Ok tt) (unless-passed NoSuchTask no_task (leb (task_count s) j) _ r).1).0)
 
-  pub filled-file : file_check s ≡ Passed
+  pub filled-file : file_check s ≡ Ok tt
   filled-file = filled-passed.0
 
   none-reaching : too_many (reaching k its) 24 ≡ false

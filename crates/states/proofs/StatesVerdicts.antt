@@ -12,13 +12,12 @@ use borrow.Author.Tests.{leb-true, le-leb, ltb-true, ltb-false}
 use Rattle.model.specs.Tasks.{task}
 use Rattle.model.specs.States.{Fault11}
 use Rattle.project.specs.File.{cache_blocks, task_count}
-use Rattle.project.specs.Checklist.{AllPass, numbers, Agreeing}
+use Rattle.project.specs.Checklist.{AllPass, Verdict, numbers, Agreeing}
 use Rattle.project.specs.Reading.{file_checks}
 use Rattle.project.specs.Tasks.{tasks_of, file_cache_in, file_cache}
-use Rattle.project.specs.Verdict.{FillingVerdict}
-use Rattle.project.proofs.Checklists.{passed_computed, agreeing_append}
+use Rattle.project.proofs.Checklists.{verdict_exact, passed_computed, agreeing_append}
 use Rattle.project.proofs.TaskFaults.{Bytes}
-use Rattle.project.proofs.Verdicts.{differ_exact, file_agreeing, filling_verdict}
+use Rattle.project.proofs.Verdicts.{differ_exact, file_agreeing}
 use Rattle.reader.proofs.TaskBodies.{passing_accepted, task-body, task-bounds}
 use Rattle.rows.specs.Rows.{area_length}
 use Rattle.graphs.specs.TaskRows.{test11}
@@ -52,9 +51,9 @@ module _ (w : ℕ) (wide_enough : 16 ≤ w) (s : List ℕ) (h : Bytes s) (j : �
   )
 
   -- what States answers, for every list of bytes, task number and area
-  pub states_verdict : FillingVerdict (states_checks w s j area) (filling_of w s j area)
+  pub states_verdict : Verdict (states_checks w s j area) (filling_of w s j area)
   unfolding filling_of
-  states_verdict = filling_verdict (states_checks w s j area) states_agreeing
+  states_verdict = verdict_exact (states_checks w s j area) states_agreeing
 
   -- "States checks 1 to 10, 15, then 11 for its task."; without 10 (document 02, Point 5)
   pub states-order : numbers (states_checks w s j area) ≡ 1 ∷ 2 ∷ 3 ∷ 4 ∷ 5 ∷ 6 ∷ 7 ∷ 8 ∷ 9 ∷ 15 ∷ 11 ∷ []

@@ -21,7 +21,7 @@ use Rattle.model.proofs.Wider.{Behind, reaches-narrow, lives-narrow}
 use Rattle.model.proofs.Width.{wider}
 use Rattle.rows.specs.Rows.{part_of, flat}
 use Rattle.rows.proofs.Parts.{after_first, row_within}
-use Rattle.project.specs.declared.answers.Filling.TheVariants.{Filled}
+use Rattle.std.specs.Prelude.{Ok}
 use Rattle.project.specs.File.{cache_blocks}
 use Rattle.project.specs.Tasks.{tasks_of, file_cache_in}
 use Rattle.project.proofs.Accepted.{passing}
@@ -97,7 +97,7 @@ no_member (x ∷ xs) h = absurd (h x (or_left (same_list x x) (mem same_list x x
 
 -- ---- after an accepting call
 
-module _ (w : ℕ) (s : List ℕ) (j : ℕ) (area : List ℕ) (ok : filling_of w s j area ≡ Filled) (live : Bool) (b : ℕ) (inside : b < 24) where
+module _ (w : ℕ) (s : List ℕ) (j : ℕ) (area : List ℕ) (ok : filling_of w s j area ≡ Ok tt) (live : Bool) (b : ℕ) (inside : b < 24) where
   abbrev its : Task
   its = task (tasks_of s) j
 

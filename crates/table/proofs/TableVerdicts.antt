@@ -11,13 +11,12 @@ use lib.ListN.{length}
 use Rattle.model.specs.Tasks.{task}
 use Rattle.model.specs.States.{Fault11}
 use Rattle.project.specs.File.{cache_blocks}
-use Rattle.project.specs.Checklist.{AllPass, numbers, Agreeing}
+use Rattle.project.specs.Checklist.{AllPass, Verdict, numbers, Agreeing}
 use Rattle.project.specs.Reading.{file_checks}
 use Rattle.project.specs.Tasks.{tasks_of, file_cache_in, file_cache}
-use Rattle.project.specs.Verdict.{FillingVerdict}
-use Rattle.project.proofs.Checklists.{passed_computed, agreeing_append, of_exact}
+use Rattle.project.proofs.Checklists.{verdict_exact, passed_computed, agreeing_append, of_exact}
 use Rattle.project.proofs.TaskFaults.{Bytes}
-use Rattle.project.proofs.Verdicts.{differ_exact, either_exact, file_agreeing, filling_verdict}
+use Rattle.project.proofs.Verdicts.{differ_exact, either_exact, file_agreeing}
 use Rattle.reader.proofs.TaskBodies.{passing_accepted, task-body, tasks_long, task-bounds}
 use Rattle.rows.specs.Rows.{area_length}
 use Rattle.graphs.specs.TaskRows.{test11}
@@ -41,8 +40,8 @@ module _ (w : ℕ) (wide_enough : 16 ≤ w) (s : List ℕ) (h : Bytes s) (area t
   )
 
   -- what Table answers, for every list of bytes, area and table
-  pub table_verdict : FillingVerdict (table_checks w s area table) (table_answer w s area table)
-  table_verdict = filling_verdict (table_checks w s area table) table_agreeing
+  pub table_verdict : Verdict (table_checks w s area table) (table_answer w s area table)
+  table_verdict = verdict_exact (table_checks w s area table) table_agreeing
 
   -- "Table checks 1 to 11."; without 10 (document 02, Point 5)
   pub table_order : numbers (table_checks w s area table) ≡ 1 ∷ 2 ∷ 3 ∷ 4 ∷ 5 ∷ 6 ∷ 7 ∷ 8 ∷ 9 ∷ 11 ∷ []

@@ -3,8 +3,9 @@ use mathlib.Core.Path.{◌≡◌, sym}
 use mathlib.Core.Bool.{Bool, true, false, not, ◌&&◌, ◌||◌}
 use Prim.Native.Nat.{ℕ}
 use lib.Dec.{ltb}
-use Rattle.project.specs.declared.answers.Check.TheVariants.{Passed}
-use Rattle.project.specs.declared.answers.Check.TheVariants.{Refused as Failed}
+use Rattle.std.specs.Prelude.{Ok, Err}
+use Rattle.project.specs.declared.answers.Check.TheVariants.{TooManyStates}
+use Rattle.project.specs.Checklist.{refusal}
 use Rattle.costliest.specs.Costliest.{two_check}
 use mathlib.Core.Logic.{inl, inr}
 use native.Mathlib.Omega.{arith}
@@ -14,13 +15,13 @@ use Rattle.costliest.proofs.check_two.Goals.{else-own-via-then-own+else-i-j, els
 
 -- ---- what is answered where the first test holds, where only the second does, and where none does
 module _ (i : ℕ) (own : Bool) (j : ℕ) (other : Bool) where
-  at_own : own ≡ true → (not other || ltb i j) ≡ true → two_check i own j other ≡ Failed 11 i
+  at_own : own ≡ true → (not other || ltb i j) ≡ true → two_check i own j other ≡ Err (refusal TooManyStates i)
   at_own h g = rw (h, g)
 
-  at_other : (own && (not other || ltb i j)) ≡ false → other ≡ true → two_check i own j other ≡ Failed 11 j
+  at_other : (own && (not other || ltb i j)) ≡ false → other ≡ true → two_check i own j other ≡ Err (refusal TooManyStates j)
   at_other h g = rw (h, g)
 
-  at_none : (own && (not other || ltb i j)) ≡ false → other ≡ false → two_check i own j other ≡ Passed
+  at_none : (own && (not other || ltb i j)) ≡ false → other ≡ false → two_check i own j other ≡ Ok tt
   at_none h g = rw (h, g)
 
 pub returns-then-i-j : goal.returns-then-i-j

@@ -13,6 +13,7 @@ use Rattle.task_trails.specs.TaskTrails.{AreaTrails}
 use Rattle.costliest.specs.Costliest.{two_checks}
 use Rattle.costliest.proofs.FoundRows.{few_tasks}
 use Rattle.costliest.proofs.CostliestVerdicts.{two_tasks, two_verdict, both-passed}
+use Rattle.project.proofs.Checklists.{refused_by}
 use Rattle.costliest.proofs.Answers.{answer_as, refused_as}
 use Rattle.costliest.proofs.run_of_two.Goals as goal
 use Rattle.costliest.proofs.run_of_two.Goals.{After-check_two}
@@ -71,7 +72,7 @@ write_run-requires c =
     let e = c in
     let own = e.find_trails-own in
     let other = e.find_trails-other in
-    let (p, q) = both-passed start.args.i start.args.j own.result.full other.result.full (sym e.check_two.ensures ∙ c.in-Passed.is) in (
+    let (p, q) = both-passed start.args.i start.args.j own.result.full other.result.full (sym e.check_two.ensures ∙ c.in_ok-check_two.was) in (
       start.requires.0,
       start.requires.1,
       start.requires.2,
@@ -83,14 +84,14 @@ write_run-requires c =
           other.result.reached other.result.lived other.result.to other.result.on b) q (other-trails (goal.at.write_run-requires c).After-check_two),
     )
 
-pub returns-in-Refused : goal.returns-in-Refused
-returns-in-Refused c =
+pub returns-in_err-check_two : goal.returns-in_err-check_two
+returns-in_err-check_two c =
     let start = c in
     let e = c in
-    (refused_as start.args.file.now start.args.i start.args.j start.args.sheet.now (told (goal.at.returns-in-Refused c).After-check_two ∙ c.in-Refused.is), (own-trails (goal.at.returns-in-Refused c).After-check_two).rows.long, (other-trails (goal.at.returns-in-Refused c).After-check_two).rows.long)
+    (refused_as start.args.file.now start.args.i start.args.j start.args.sheet.now (told (goal.at.returns-in_err-check_two c).After-check_two ∙ c.in_err-check_two.was) (refused_by c.from_residual.ensures), (own-trails (goal.at.returns-in_err-check_two c).After-check_two).rows.long, (other-trails (goal.at.returns-in_err-check_two c).After-check_two).rows.long)
 
-pub returns-in-Passed : goal.returns-in-Passed
-returns-in-Passed c =
+pub returns : goal.returns
+returns c =
     let start = c in
     let e = c in
-    (answer_as start.args.file.now start.args.i start.args.j start.args.sheet.now _ c.write_run.result (told (goal.at.returns-in-Passed c).After-check_two ∙ c.in-Passed.is) c.write_run.ensures, (own-trails (goal.at.returns-in-Passed c).After-check_two).rows.long, (other-trails (goal.at.returns-in-Passed c).After-check_two).rows.long)
+    (answer_as start.args.file.now start.args.i start.args.j start.args.sheet.now _ c.write_run.result (told (goal.at.returns c).After-check_two ∙ c.in_ok-check_two.was) c.write_run.ensures, (own-trails (goal.at.returns c).After-check_two).rows.long, (other-trails (goal.at.returns c).After-check_two).rows.long)

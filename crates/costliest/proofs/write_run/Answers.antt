@@ -182,10 +182,10 @@ overflow_mul-end c = omega (arith, end_is (goal.at.overflow_mul-end c).After-blo
 pub overflow_add-end : goal.overflow_add-end
 overflow_add-end c = omega (arith, (by-has (goal.at.overflow_add-end c).After-find_rows-found).inside, end_is (goal.at.overflow_add-end c).After-block_count-end)
 
-pub write_sheet-length-requires : goal.write_sheet-length-requires
-write_sheet-length-requires c =
+pub write_sheet-requires : goal.write_sheet-requires
+write_sheet-requires c =
     let e = c in
-    (before-has (goal.at.write_sheet-length-requires c).After-find_rows-found, on-has (goal.at.write_sheet-length-requires c).After-find_rows-found, rw (end_is (goal.at.write_sheet-length-requires c).After-block_count-end) (by-has (goal.at.write_sheet-length-requires c).After-find_rows-found), e.requires.4)
+    (before-has (goal.at.write_sheet-requires c).After-find_rows-found, on-has (goal.at.write_sheet-requires c).After-find_rows-found, rw (end_is (goal.at.write_sheet-requires c).After-block_count-end) (by-has (goal.at.write_sheet-requires c).After-find_rows-found), e.requires.4)
 
 pub returns : goal.returns
 returns c =
@@ -195,5 +195,5 @@ returns c =
     let (hi, hj, ne) = two (goal.at.returns c).Start in
     let counted = e in
     written_run s (bytes (goal.at.returns c).After-find_rows-found) start.requires.0 start.args.w (room (goal.at.returns c).Start) start.args.i start.args.j hi hj ne (start.requires.5.reaching refl) (start.requires.5.live refl) (start.requires.6.reaching refl) e.find_rows-found.result (makes (goal.at.returns c).After-find_rows-found)
-    (ltb 0 e.find_rows-found.result.cost) refl (32 * (counted.block_count-end.result - 1) + e.find_rows-found.result.ending) (ap (λ (n : ℕ). 32 * n + e.find_rows-found.result.ending) (end_is (goal.at.returns c).After-block_count-end)) c.write_sheet-length.ensures.0
-    c.write_sheet-length.ensures.1
+    (ltb 0 e.find_rows-found.result.cost) refl (32 * (counted.block_count-end.result - 1) + e.find_rows-found.result.ending) (ap (λ (n : ℕ). 32 * n + e.find_rows-found.result.ending) (end_is (goal.at.returns c).After-block_count-end)) c.write_sheet.ensures.0
+    c.write_sheet.ensures.1

@@ -18,14 +18,14 @@ returns-then-is_outside c =
     let clock = outside largest_clock args.clock in
     let number = ltb largest_number args.number in
     let first = sym c.is_outside.ensures in
-    elim c.then-is_outside.branch [
-      | then-is_outside-via-then-is_outside w ↦ c.refused.ensures ∙ sym (at_17 args.number args.penalty args.clock (or_left penalty (clock || number) (first ∙ w.if-is_outside.true)))
-      | then-is_outside-via-else-is_outside+then-is_outside-2 w ↦ c.refused.ensures ∙ sym (at_17 args.number args.penalty args.clock
-          (or_second penalty (first ∙ w.if-is_outside.false) (or_left clock number (sym w.is_outside-else-is_outside.ensures ∙ w.if-is_outside-2.true))))
-      | then-is_outside-via-else-is_outside+else-is_outside-2+then-number-gt-LARGEST_NUMBER w ↦ c.refused.ensures ∙ sym (at_17 args.number args.penalty args.clock
-          (or_second penalty (first ∙ w.if-is_outside.false)
-          (or_second clock (sym w.is_outside-else-is_outside.ensures ∙ w.if-is_outside-2.false) (lt-ltb largest_number args.number w.if-number-gt-LARGEST_NUMBER.true))))
-    ]
+    at_17 args.number args.penalty args.clock c.into.ensures (elim c.then-is_outside.branch [
+      | then-is_outside-via-then-is_outside w ↦ or_left penalty (clock || number) (first ∙ w.if-is_outside.true)
+      | then-is_outside-via-else-is_outside+then-is_outside-2 w ↦
+          or_second penalty (first ∙ w.if-is_outside.false) (or_left clock number (sym w.is_outside-else-is_outside.ensures ∙ w.if-is_outside-2.true))
+      | then-is_outside-via-else-is_outside+else-is_outside-2+then-number-gt-LARGEST_NUMBER w ↦
+          or_second penalty (first ∙ w.if-is_outside.false)
+          (or_second clock (sym w.is_outside-else-is_outside.ensures ∙ w.if-is_outside-2.false) (lt-ltb largest_number args.number w.if-number-gt-LARGEST_NUMBER.true))
+    ])
 
 pub returns : goal.returns
 returns c =
@@ -34,4 +34,4 @@ returns c =
     let clock = outside largest_clock args.clock in
     let in-penalty = sym c.is_outside.ensures ∙ c.if-is_outside.false in
     let in-clock = sym c.is_outside-else-is_outside.ensures ∙ c.if-is_outside-2.false in
-    sym (at_none args.number args.penalty args.clock (or_second penalty in-penalty (or_second clock in-clock (le-ltb largest_number args.number c.if-number-gt-LARGEST_NUMBER.false))))
+    at_none args.number args.penalty args.clock (or_second penalty in-penalty (or_second clock in-clock (le-ltb largest_number args.number c.if-number-gt-LARGEST_NUMBER.false)))

@@ -1,8 +1,8 @@
 -- `fill_table` meets its contract: the end rows of all tasks, then the numbers of each, and the table last. Assumes nothing.
 use mathlib.Core.Path.{refl, sym, ap, ◌∙◌}
-use native.Mathlib.Omega.{arith}
 use lib.ListN.{length}
 use Rattle.cache.specs.Shape.{shaped}
+use Rattle.project.proofs.Checklists.{refused_by}
 use Rattle.file_pairs.proofs.TableLaws.{table_long}
 use Rattle.table.proofs.Answers.{too_many_lem, all-filled}
 use Rattle.table.proofs.fill_table.Goals as goal
@@ -18,36 +18,19 @@ find_numbers-requires c =
     let found = c.find_ends.ensures in
     (is.0, is.1, is.2, is.3, is.4, found.0, found.1, refl)
 
-pub copy_row-requires : goal.copy_row-requires
-copy_row-requires c =
-    let start = c in
-    let all = c.find_numbers.ensures.2 c.in-Passed.is in
-    let long = ap length all ∙ table_long start.args.file.now in
-    (omega (arith, long), start.requires.7 ∙ sym long)
+pub copy_from_slice-requires : goal.copy_from_slice-requires
+copy_from_slice-requires c =
+    let all = c.find_numbers.ensures.2 c.in_ok-find_numbers.was in
+    c.requires.7 ∙ sym (ap length all ∙ table_long c.args.file.now)
 
-pub shape_of-area-in-Refused : goal.shape_of-area-in-Refused
-shape_of-area-in-Refused c = c.find_numbers.ensures.0 ∙ sym c.requires.5
-
-pub shape_of-ends-in-Refused : goal.shape_of-ends-in-Refused
-shape_of-ends-in-Refused c = c.find_ends.ensures.1.room.long ∙ sym c.requires.6
-
-pub returns-in-Refused : goal.returns-in-Refused
-returns-in-Refused c =
-    let args = c.args in
+pub returns-in_err-find_numbers : goal.returns-in_err-find_numbers
+returns-in_err-find_numbers c =
     let found = c.find_numbers.ensures in
-    let out = too_many_lem (shaped args.w args.shape) args.file.now args.table.now found.1 c.in-Refused.is in
+    let out = too_many_lem (shaped c.args.w c.args.shape) c.args.file.now c.args.table.now found.1 c.in_err-find_numbers.was (refused_by c.from_residual.ensures) in
     (out.0, out.1, found.0)
 
-pub shape_of-area-in-Passed : goal.shape_of-area-in-Passed
-shape_of-area-in-Passed c = c.find_numbers.ensures.0 ∙ sym c.requires.5
-
-pub shape_of-ends-in-Passed : goal.shape_of-ends-in-Passed
-shape_of-ends-in-Passed c = c.find_ends.ensures.1.room.long ∙ sym c.requires.6
-
-pub returns-in-Passed : goal.returns-in-Passed
-returns-in-Passed c =
-    let args = c.args in
+pub returns : goal.returns
+returns c =
     let found = c.find_numbers.ensures in
-    let passed = c.in-Passed.is in
-    let out = all-filled (shaped args.w args.shape) args.file.now args.table.now found.1 passed c.copy_row.ensures found.2 in
+    let out = all-filled (shaped c.args.w c.args.shape) c.args.file.now c.args.table.now found.1 c.in_ok-find_numbers.was c.copy_from_slice.ensures.after found.2 in
     (out.0, out.1, found.0)

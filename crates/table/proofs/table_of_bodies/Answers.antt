@@ -5,6 +5,7 @@ use native.Mathlib.Omega.{arith}
 use lib.ListN.{length-replicate}
 use Rattle.project.specs.Bodies.{accepted}
 use Rattle.project.proofs.Accepted.{accepted-passed, file-holds}
+use Rattle.project.proofs.Checklists.{refused_by}
 use Rattle.table.proofs.Answers.{not_read, as_filled}
 use Rattle.table.proofs.table_of_bodies.Goals as goal
 
@@ -12,13 +13,13 @@ pub read_bodies-requires : goal.read_bodies-requires
 read_bodies-requires c = c.requires.0
 
 pub file_shape-requires : goal.file_shape-requires
-file_shape-requires c = ap accepted (sym c.read_bodies.ensures ∙ c.in-Accepted.is)
+file_shape-requires c = ap accepted (sym c.read_bodies.ensures ∙ c.in_ok-accepted.was)
 
 pub fill_table-requires : goal.fill_table-requires
 fill_table-requires c =
     let start = c in
-    let e = sym c.read_bodies.ensures ∙ c.in-Accepted.is in
-    let (q, en, et) = accepted-passed start.args.file.now _ _ e in (
+    let e = sym c.read_bodies.ensures ∙ c.in_ok-accepted.was in
+    let (q, en, et) = accepted-passed start.args.file.now _ e in (
       ap accepted e,
       c.file_shape.ensures,
       file-holds 16 (omega arith) start.args.file.now q c.file_shape.ensures,
@@ -29,21 +30,21 @@ fill_table-requires c =
       start.requires.2,
     )
 
-pub returns-in-Refused : goal.returns-in-Refused
-returns-in-Refused c =
+pub returns-in_err-accepted : goal.returns-in_err-accepted
+returns-in_err-accepted c =
     let start = c in
     let args = start.args in
-    let out = not_read 16 args.file.now args.area.now args.table.now start.requires.1 start.requires.2 (sym c.read_bodies.ensures ∙ c.in-Refused.is) in
+    let out = not_read 16 args.file.now args.area.now args.table.now start.requires.1 start.requires.2 (sym c.read_bodies.ensures ∙ c.in_err-accepted.was) (refused_by c.from_residual.ensures) in
     (out.0, out.1, start.requires.1)
 
 pub shape_of-area : goal.shape_of-area
 shape_of-area c = c.fill_table.ensures.2 ∙ sym c.requires.1
 
-pub returns-in-Accepted : goal.returns-in-Accepted
-returns-in-Accepted c =
+pub returns : goal.returns
+returns c =
     let start = c in
     let args = start.args in
     let filled = c.fill_table.ensures in
-    let (q, en, et) = accepted-passed args.file.now _ _ (sym c.read_bodies.ensures ∙ c.in-Accepted.is) in
+    let (q, en, et) = accepted-passed args.file.now _ (sym c.read_bodies.ensures ∙ c.in_ok-accepted.was) in
     let out = as_filled 16 args.file.now args.area.now args.table.now start.requires.1 start.requires.2 q c.file_shape.ensures filled.0 filled.1 in
     (out.0, out.1, filled.2)

@@ -5,8 +5,7 @@ use native.Mathlib.Omega.{arith}
 use lib.ListN.{length, set, take, drop, length-set, length-replicate}
 use Rattle.cache.specs.Shape.{shaped}
 use Rattle.model.specs.Tasks.{task}
-use Rattle.project.specs.declared.answers.Check.TheVariants.{Passed}
-use Rattle.project.specs.declared.answers.Check.TheVariants.{Refused as Failed}
+use Rattle.project.proofs.Checklists.{ok-not-err}
 use Rattle.project.specs.File.{task_count}
 use Rattle.project.specs.Tasks.{tasks_of}
 use Rattle.reader.proofs.TaskBodies.{TaskBody, body_kept, body-task}
@@ -15,9 +14,6 @@ use Rattle.file_pairs.specs.Found.{NumbersFound}
 use Rattle.file_pairs.proofs.TableLaws.{file_pairs, at_first_lem, found_as, row-long, stops, grown_long, turn, ends, whole}
 use Rattle.file_pairs.proofs.numbers.find_numbers.Goals as goal
 use Rattle.file_pairs.proofs.numbers.find_numbers.Goals.{After-task_numbers, In-loop-i}
-
-no_table : {a : ℕ} → Failed 11 a ≡ Passed → ⊥
-no_table e = let z : ◌≡◌ {A = ℕ} 0 1 = cc in omega arith
 
 -- the task numbered i is one of the file
 the-task : (c : In-loop-i) → TaskBody c.args.file.now c.loop-i.i
@@ -85,7 +81,7 @@ returns-then-task_numbers c =
     let k = shaped start.args.w start.args.shape in
     let same = file_pairs start.args.w file start.requires.1 start.requires.2 in
     let e = stops file k at.i same t.in_file.below t.in_file.few at.numbers at.invariant.2 (found (goal.at.returns-then-task_numbers c).After-task_numbers).answer c.if-task_numbers.true c.task_byte.ensures in
-    (c.task_numbers.ensures.0, e, λ q. absurd (no_table q))
+    (c.task_numbers.ensures.0, e, λ q. absurd (ok-not-err (sym q)))
 
 pub bounds-numbers-i-in-loop-i : goal.bounds-numbers-i-in-loop-i
 bounds-numbers-i-in-loop-i c =
