@@ -2,16 +2,15 @@
 ghost use Rattle.std.specs.Prelude.{◌≡◌};
 ghost use Rattle.c_answers.specs.Nested.{nested_replaying_status, nested_replaying_left};
 
-use crate::put::put_longs;
-use nested_replay::NestedReplaying;
-use project::answers::NO_TASK;
+use crate::put::put;
+use project::answers::{NO_TASK, Refusal};
 
 // Two places: the task named and the total (0 after a refusal).
-pub fn tell_nested(answer: &mut [u64], told: NestedReplaying) -> u8
+pub fn tell_nested(answer: &mut [u64], told: Result<u64, Refusal>) -> u8
     ensures { (result ≡ nested_replaying_status answer.old told) × (answer.new ≡ nested_replaying_left answer.old told) }
 {
     match told {
-        NestedReplaying::Counted { total } => put_longs(answer, 0, NO_TASK as u64, total),
-        NestedReplaying::Refused { check, task } => put_longs(answer, check, task as u64, 0),
+        Ok(total) => put(answer, 0, [u64::from(NO_TASK), total]),
+        Err(refused) => put(answer, refused.check.number(), [u64::from(refused.task), 0]),
     }
 }

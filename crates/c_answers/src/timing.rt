@@ -2,22 +2,20 @@
 ghost use Rattle.std.specs.Prelude.{◌≡◌};
 ghost use Rattle.c_answers.specs.Timing.{timing_status, timing_left};
 
-use crate::put::put_words;
-use microseconds::Timing;
-use project::answers::NO_TASK;
+use crate::put::put;
+use microseconds::Time;
+use project::answers::{NO_TASK, Refusal};
 
 // Three places: the task named, the whole microseconds and the remainder (0 and 0 after a refusal).
-pub fn tell_timing(answer: &mut [u32], told: Timing) -> u8
+pub fn tell_timing(answer: &mut [u32], told: Result<Time, Refusal>) -> u8
     ensures { (result ≡ timing_status answer.old told) × (answer.new ≡ timing_left answer.old told) }
 {
     match told {
-        Timing::Timed { whole, remainder } => put_words(
+        Ok(Time { whole, remainder }) => put(answer, 0, [u32::from(NO_TASK), whole, remainder]),
+        Err(refused) => put(
             answer,
-            0,
-            NO_TASK as u32,
-            whole,
-            remainder,
+            refused.check.number(),
+            [u32::from(refused.task), 0, 0],
         ),
-        Timing::Refused { check, task } => put_words(answer, check, task as u32, 0, 0),
     }
 }
