@@ -2,6 +2,8 @@
 ghost use Rattle.std.specs.Prelude.{◌≡◌};
 ghost use Rattle.project.specs.Checklist.{number_of, no_task, refusal};
 
+use std::fmt;
+
 // The task that a check names which is about no task.
 pub const NO_TASK: u8 = 255;
 
@@ -85,6 +87,13 @@ impl Check {
 pub struct Refusal {
     pub check: Check,
     pub task: u8,
+}
+
+// As crpd prints it: "refused 8 task 0".
+impl fmt::Display for Refusal {
+    fn fmt<W: fmt::Write>(&self, f: &mut fmt::Formatter<W>) -> fmt::Result {
+        write!(f, "refused {} task {}", self.check.number(), self.task)
+    }
 }
 
 // A check that names no task.
