@@ -22,9 +22,9 @@ use Rattle.project.specs.declared.answers.Accepted.{Accepted}
 use Rattle.project.specs.File.{mark, edition, cache_blocks, task_count, reserve, contents_start, bodies_start, offset_of, size_of, bodies, joined, contents_of, head_of, file_in}
 use Rattle.project.specs.Checks.{longest}
 use Rattle.project.specs.Tasks.{file_shape}
-use Rattle.project.specs.Checklist.{no_task, refusal, Checked, answered, and_then, unless, lowest}
+use Rattle.project.specs.Checklist.{no_task, refusal, Checked, and_then, unless, lowest}
 use Rattle.project.specs.Reading.{test2, test3, test4, test5, count_test, reserve_test, test6, contents_fit, test7, test8, head_checks_up_to, contents_checks, head_check_up_to, tasks_check, file_check_up_to, file_check, counts_of, reading_up_to, reading_of}
-use Rattle.project.proofs.Checklists.{verdict_append}
+use Rattle.project.proofs.Checklists.{answered_ok, verdict_append}
 use Rattle.project.proofs.TaskFaults.{Bytes, kept-task}
 use Rattle.project.proofs.RoundTrips.{length-file, length-bodies, file_contents, file-bodies, read_contents}
 
@@ -96,11 +96,9 @@ module _ (e : ℕ) (s : List ℕ) where
       }
 
   pub accepted_up_to : (a : Accepted) → reading_up_to e s ≡ Ok a → (file_check_up_to e s ≡ Ok tt) × (a.n ≡ cache_blocks s) × (a.t ≡ task_count s)
-  accepted_up_to a h = go (file_check_up_to e s) refl h
-    where
-      go : (r : Checked) → file_check_up_to e s ≡ r → answered r (counts_of s) ≡ Ok a → (file_check_up_to e s ≡ Ok tt) × (a.n ≡ cache_blocks s) × (a.t ≡ task_count s)
-      go (Ok x) q h = let same : counts_of s ≡ a = cc in (q, ap (λ (k : Accepted). k.n) (sym same), ap (λ (k : Accepted). k.t) (sym same))
-      go (Err r) q h = absurd cc
+  accepted_up_to a h =
+      let (q, same) = answered_ok (file_check_up_to e s) (counts_of s) h in
+      (q, ap (λ (k : Accepted). k.n) (sym same), ap (λ (k : Accepted). k.t) (sym same))
 
 -- in calls that read edition 1
 pub passing : (s : List ℕ) → file_check s ≡ Ok tt → Passing 1 s

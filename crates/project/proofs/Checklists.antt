@@ -14,7 +14,7 @@ use Rattle.std.specs.Prelude.{Result, Ok, Err, IsErr, IsErrAnd}
 use Rattle.project.specs.declared.answers.Check.{Check}
 use Rattle.project.specs.declared.answers.Check.TheVariants.{ListLength, FileLength, WrongMark, WrongEdition, CacheBlocks, TaskCount, WrongContents, BrokenLayout, OffPath, TooManyStates, SheetRules, WrongPath, OutLength, NoSuchTask, MaskedPoint, OutOfBounds, SameTasks, SheetLength, TooDeep, WrongTimes}
 use Rattle.project.specs.declared.answers.Refusal.{Refusal}
-use Rattle.project.specs.Checklist.{number_of, refusal, Checked, Entry, one, each, Of, Lowest, Fails, Passes, AllPass, Verdict, and_then, unless, lowest, outcome, verdict_of, Agreeing}
+use Rattle.project.specs.Checklist.{number_of, refusal, Checked, answered, Entry, one, each, Of, Lowest, Fails, Passes, AllPass, Verdict, and_then, unless, lowest, outcome, verdict_of, Agreeing}
 
 -- ---- the first test that holds, of a list of tests
 
@@ -163,6 +163,15 @@ refused_by {A} {q} {r} h = go q h.0 h.1
     go : (p : Result A Refusal) → IsErr p → IsErrAnd p (λ e. e ≡ r) → p ≡ Err r
     go (Ok x) f e = absurd e
     go (Err x) f e = ap (λ (k : Refusal). Err k) e
+
+-- what a call answers tells what its checks say
+pub answered_ok : {A : Type 0} (r : Checked) (x : A) {y : A} → answered r x ≡ Ok y → (r ≡ Ok tt) × (x ≡ y)
+answered_ok (Ok passed) x e = (refl, cc)
+answered_ok (Err q) x e = absurd (ok-not-err (sym e))
+
+pub answered_err : {A : Type 0} (r : Checked) (x : A) {q : Refusal} → answered r x ≡ Err q → r ≡ Err q
+answered_err (Ok passed) x e = absurd (ok-not-err e)
+answered_err (Err q) x e = cc
 
 -- ---- lists joined
 

@@ -22,7 +22,7 @@ use Rattle.project.specs.Reading.{test8, file_check, Reading, counts_of, reading
 use Rattle.project.specs.Checklist.{Checked, answered}
 use Rattle.project.specs.Bodies.{accepted}
 use Rattle.project.specs.Tasks.{tasks_of}
-use Rattle.project.proofs.Checklists.{ok-not-err}
+use Rattle.project.proofs.Checklists.{answered_err}
 use Rattle.project.proofs.Accepted.{tasks_kept, passing, accepted-passed}
 use Rattle.project.proofs.RoundTrips.{length-bodies}
 use Rattle.project.proofs.FileRules.{each_at, task_in}
@@ -94,8 +94,4 @@ tasks_long s = rw length-map (length-bodies s (task_count s) 0)
 
 -- a file that is refused fails the check that is named
 pub refused_check : (s : List ℕ) {r : Refusal} → reading_of s ≡ Err r → file_check s ≡ Err r
-refused_check s {r} e = go (file_check s) refl
-  where
-    go : (k : Checked) → file_check s ≡ k → file_check s ≡ Err r
-    go (Ok x) q = absurd (ok-not-err (rw q at e))
-    go (Err x) q = let told : ◌≡◌ {A = Reading} (Err x) (Err r) = rw q at e in q ∙ cc
+refused_check s {r} e = answered_err (file_check s) (counts_of s) e

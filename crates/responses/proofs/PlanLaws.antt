@@ -1,5 +1,5 @@
 -- The plan that the call makes, in the code's words: what Table answers decides first, and then check 21.
-use mathlib.Core.Path.{◌≡◌, refl, sym, ap, ap₂, ◌∙◌}
+use mathlib.Core.Path.{◌≡◌, refl, sym, ap, ap₂, subst, ◌∙◌}
 use mathlib.Core.Bool.{Bool, true, false, not, ◌||◌}
 use mathlib.Core.List.{List, [], ◌∷◌, ◌++◌}
 use Prim.Native.Nat.{ℕ, ◌+◌, ◌*◌, ◌≤◌, ◌<◌}
@@ -7,55 +7,50 @@ use native.Mathlib.Omega.{arith}
 use lib.Dec.{eqb, ltb}
 use lib.ListN.{length, get_or, take, replicate}
 use borrow.Author.Tests.{eqb-true, ltb-false, lt-ltb, ne_eqb, not-false}
-use Rattle.project.specs.declared.answers.Check.{Check}
-use Rattle.project.specs.declared.answers.Check.TheVariants.{Passed}
-use Rattle.project.specs.declared.answers.Check.TheVariants.{Refused as Failed}
-use Rattle.project.specs.declared.answers.Filling.{Filling}
-use Rattle.project.specs.declared.answers.Filling.TheVariants.{Filled, Refused}
+use Rattle.std.specs.Prelude.{Result, Ok, Err}
+use Rattle.project.specs.declared.answers.Check.TheVariants.{ListLength, WrongTimes}
+use Rattle.project.specs.declared.answers.Refusal.{Refusal}
 use Rattle.project.specs.File.{task_count}
-use Rattle.project.specs.Checklist.{one, and_then, unless, no_task, verdict_of}
+use Rattle.project.specs.Checklist.{one, refusal, Checked, and_then, unless, no_task, verdict_of}
 use Rattle.project.specs.Reading.{outside, file_checks}
 use Rattle.project.specs.Tasks.{file_pair}
-use Rattle.project.specs.Filling.{pick_filling}
 use Rattle.project.proofs.Accepted.{Passing, passing, then_passed, unless-passed, or_false_left, or_false_right}
-use Rattle.project.proofs.Checklists.{then_none, verdict_append}
+use Rattle.project.proofs.Checklists.{answered_ok, answered_err, then_none, verdict_append}
 use Rattle.file_pairs.specs.FilePairs.{table_of}
-use Rattle.table.specs.Table.{full_checks, pick_table, table_check, table_answer, table_after}
-use Rattle.table.proofs.Entries.{filled-passed, refused_failed, passed-file, table_place}
+use Rattle.table.specs.Table.{full_checks, table_check, table_answer, table_after}
+use Rattle.table.proofs.Entries.{passed-file, table_place}
 use Rattle.response.specs.declared.Record.{Record}
 use Rattle.response.specs.declared.Times.{Times}
 use Rattle.response.specs.Times.{record_of, no_times, times_response, record_response, TaskTimes, table_pair, with_responses}
 use Rattle.response.proofs.ResponseLaws.{same_response}
 use Rattle.responses.specs.declared.plan.Plan.{Plan}
-use Rattle.responses.specs.Responses.{largest_time, Fault1, test1, Fault21, any, wrong_record, test21, response_check, response_answer, responded, pick_list, response_after}
-use Rattle.responses.specs.Plan.{few_of, times_of, wrong_at, times_test21, refused_plan, pick_plan, decided_plan, plan_check, plan_of, plan_response, Ready}
+use Rattle.responses.specs.Responses.{largest_time, Fault1, test1, Fault21, any, wrong_record, test21, response_check, response_answer, response_after}
+use Rattle.responses.specs.Plan.{few_of, times_of, wrong_at, times_test21, plan_check, plan_made, plan_of, plan_response, Ready}
 use Rattle.responses.proofs.TimesLaws.{few-all, any_cong, any_none, times_count, times_at}
-use Rattle.responses.proofs.ListLaws.{set-none, set_same}
+use Rattle.responses.proofs.ListLaws.{set_same}
 
-module _ (w : ℕ) (s area : List ℕ) {answer : Filling} (told : answer ≡ table_answer w s area (replicate 64 0)) where
+module _ (w : ℕ) (s area : List ℕ) (x : Times) (penalty : ℕ) {answer : Checked} (told : answer ≡ table_answer w s area (replicate 64 0)) where
   -- Table's refusal is the plan's
-  pub plan_refused : {c a : ℕ} (x : Times) (penalty : ℕ) {numbers : List ℕ} → answer ≡ Refused c a → numbers ≡ table_after w s area (replicate 64 0)
-      → refused_plan x numbers c a ≡ plan_of w s area x penalty
-  plan_refused {c} {a} x penalty e q =
-      let f : table_check w s area (replicate 64 0) ≡ Failed c a = refused_failed (table_check w s area (replicate 64 0)) (sym told ∙ e) in
-      ap (λ (l : List ℕ). pick_plan (Failed c a) x l penalty) q
-      ∙ sym (ap (λ (k : Check). pick_plan (and_then k (unless 21 no_task (times_test21 (task_count s) x penalty))) x (table_after w s area (replicate 64 0)) penalty) f)
+  pub plan_refused : {r : Refusal} {plan : Result Plan Refusal} → answer ≡ Err r → plan ≡ Err r → plan ≡ plan_of w s area x penalty
+  plan_refused e q = q ∙ rw (sym told ∙ e)
 
-  module _ (e : answer ≡ Filled) where
-    passed : table_check w s area (replicate 64 0) ≡ Passed
-    passed = filled-passed (table_check w s area (replicate 64 0)) (sym told ∙ e)
-
+  module _ (e : answer ≡ Ok tt) where
     pub plan_passing : Passing 1 s
-    plan_passing = passing s (passed-file w s area (replicate 64 0) passed)
+    plan_passing = passing s (passed-file w s area (replicate 64 0) (sym told ∙ e))
 
     -- check 21 decides
-    pub plan_decided : (x : Times) (penalty : ℕ) {t p : ℕ} {numbers : List ℕ} {plan : Plan} → t ≡ task_count s → p ≡ penalty → numbers ≡ table_after w s area (replicate 64 0)
-        → plan ≡ decided_plan t x numbers p → plan ≡ plan_of w s area x penalty
-    plan_decided x penalty {t} {p} {numbers} et ep en ed =
-        ed
-        ∙ ap₂ (λ (k l : ℕ). decided_plan k x numbers l) et ep
-        ∙ ap (λ (l : List ℕ). decided_plan (task_count s) x l penalty) en
-        ∙ sym (ap (λ (k : Check). pick_plan (and_then k (unless 21 no_task (times_test21 (task_count s) x penalty))) x (table_after w s area (replicate 64 0)) penalty) passed)
+    module _ {t p : ℕ} {wrong : Bool} (et : t ≡ task_count s) (ep : p ≡ penalty) (ew : wrong ≡ times_test21 t x p) where
+      pub plan_wrong : {r : Refusal} → wrong ≡ true → r ≡ refusal WrongTimes no_task → Err r ≡ plan_of w s area x penalty
+      plan_wrong f q =
+          let test : times_test21 (task_count s) x penalty ≡ true = rw (et, ep) at (sym ew ∙ f) in
+          rw (q, sym told ∙ e, test)
+
+      pub plan_decided : {numbers : List ℕ} → wrong ≡ false → numbers ≡ table_after w s area (replicate 64 0)
+          → Ok (record { times = x; numbers = numbers; penalty = p }) ≡ plan_of w s area x penalty
+      plan_decided f en =
+          let test : times_test21 (task_count s) x penalty ≡ false = rw (et, ep) at (sym ew ∙ f) in
+          let passed : plan_check w s area x penalty ≡ Ok tt = rw (sym told ∙ e, test) in
+          rw (en, ep, passed)
 
 -- ---- the plan of a list of records
 
@@ -107,24 +102,17 @@ module _ (w : ℕ) (s area : List ℕ) (xs : List Record) (penalty : ℕ) where
   -- the checks of the call are those of the plan
   pub same_check : response_check w s area xs penalty ≡ plan_check w s area x penalty
   same_check =
-      verdict_append (one 1 no_task (test1 w area) (Fault1 w area) ∷ (file_checks s ++ full_checks w s)) (one 21 no_task (test21 t xs penalty) (Fault21 t xs penalty) ∷ [])
-      ∙ ap₂ and_then (ap (λ (b : Bool). and_then (unless 1 no_task b) (verdict_of (file_checks s ++ full_checks w s))) (right (test1 w area))) (then_none (unless 21 no_task (test21 t xs penalty)))
+      verdict_append (one ListLength no_task (test1 w area) (Fault1 w area) ∷ (file_checks s ++ full_checks w s)) (one WrongTimes no_task (test21 t xs penalty) (Fault21 t xs penalty) ∷ [])
+      ∙ ap₂ and_then (ap (λ (b : Bool). and_then (unless ListLength no_task b) (verdict_of (file_checks s ++ full_checks w s))) (right (test1 w area))) (then_none (unless WrongTimes no_task (test21 t xs penalty)))
       ∙ go (table_check w s area zeros) refl
     where
       right : (b : Bool) → b ≡ (b || false)
       right true = refl
       right false = refl
 
-      go : (r : Check) → table_check w s area zeros ≡ r → and_then r (unless 21 no_task (test21 t xs penalty)) ≡ and_then r (unless 21 no_task (times_test21 t x penalty))
-      go Passed e = ap (unless 21 no_task) (same_21 (passing s (passed-file w s area zeros e)).t_high)
-      go (Failed c a) e = refl
-
-  pub plan_answer : (plan_of w s area x penalty).answer ≡ response_answer w s area xs penalty
-  plan_answer = go (plan_check w s area x penalty) ∙ sym (ap pick_filling same_check)
-    where
-      go : (r : Check) → (pick_plan r x (table_after w s area zeros) penalty).answer ≡ pick_filling r
-      go Passed = refl
-      go (Failed c a) = refl
+      go : (r : Checked) → table_check w s area zeros ≡ r → and_then r (unless WrongTimes no_task (test21 t xs penalty)) ≡ and_then r (unless WrongTimes no_task (times_test21 t x penalty))
+      go (Ok y) e = ap (unless WrongTimes no_task) (same_21 (passing s (passed-file w s area zeros e)).t_high)
+      go (Err y) e = refl
 
   -- what is known where all checks pass
   record Planned : Type 0 where
@@ -134,10 +122,10 @@ module _ (w : ℕ) (s area : List ℕ) (xs : List Record) (penalty : ℕ) where
     each : (j : ℕ) → j < length xs → TaskTimes x j
     table : table_after w s area zeros ≡ table_of s
 
-  all_planned : plan_check w s area x penalty ≡ Passed → Planned
+  all_planned : plan_check w s area x penalty ≡ Ok tt → Planned
   all_planned e =
-      let (p, q) = then_passed (table_check w s area zeros) (unless 21 no_task (times_test21 t x penalty)) e in
-      let f = (unless-passed 21 no_task (times_test21 t x penalty) Passed (then_none (unless 21 no_task (times_test21 t x penalty)) ∙ q)).0 in
+      let (p, q) = then_passed (table_check w s area zeros) (unless WrongTimes no_task (times_test21 t x penalty)) e in
+      let f = (unless-passed WrongTimes no_task (times_test21 t x penalty) (Ok tt) (then_none (unless WrongTimes no_task (times_test21 t x penalty)) ∙ q)).0 in
       let h = (passing s (passed-file w s area zeros p)).t_high in
       let e1 = or_false_left (not (eqb x.count t)) (ltb 1000 penalty || any t (wrong_at x)) f in
       let e2 = or_false_right (not (eqb x.count t)) (ltb 1000 penalty || any t (wrong_at x)) f in
@@ -147,18 +135,13 @@ module _ (w : ℕ) (s area : List ℕ) (xs : List Record) (penalty : ℕ) where
         all = same;
         low = ltb-false 1000 penalty (or_false_left (ltb 1000 penalty) (any t (wrong_at x)) e2);
         each = λ j l. wrong-none x j (any_none (wrong_at x) t (or_false_right (ltb 1000 penalty) (any t (wrong_at x)) e2) j (omega arith));
-        table = ap (λ (r : Check). pick_table r zeros (table_of s)) p;
+        table = rw p;
       }
 
-  pub plan_ready : Ready (plan_of w s area x penalty) × ((plan_of w s area x penalty).count ≤ length xs)
-  plan_ready = go (plan_check w s area x penalty) refl
-    where
-      go : (r : Check) → plan_check w s area x penalty ≡ r
-          → Ready (pick_plan r x (table_after w s area zeros) penalty) × ((pick_plan r x (table_after w s area zeros) penalty).count ≤ length xs)
-      go Passed e =
-          let p = all_planned e in
-          (record { few = omega (arith, count-is, p.few); low = p.low; each = λ j l. p.each j (omega (arith, count-is)) }, omega (arith, count-is))
-      go (Failed c a) e = (record { few = omega arith; low = omega arith; each = λ j l. absurd (omega arith) }, omega arith)
+  pub plan_ready : plan_check w s area x penalty ≡ Ok tt → Ready (plan_made w s area x penalty) × (x.count ≡ length xs)
+  plan_ready e =
+      let p = all_planned e in
+      (record { few = omega (arith, count-is, p.few); low = p.low; each = λ j l. p.each j (omega (arith, count-is)) }, count-is)
 
   -- the R of a plan are those of the file
   same_time : Planned → (i : ℕ) → i < length xs → times_response x (table_pair (table_after w s area zeros)) penalty i ≡ record_response xs (file_pair s) penalty i
@@ -171,14 +154,35 @@ module _ (w : ℕ) (s area : List ℕ) (xs : List Record) (penalty : ℕ) where
       ap (λ (m : List ℕ). get_or m (8 * h + j) 0) p.table ∙ table_place s h j (omega (arith, p.few)) (omega (arith, p.few))
       ∙ rw (lt-ltb h t (omega (arith, p.all)), lt-ltb j t (omega (arith, p.all)), ne_eqb h j (λ z. omega arith)) refl)
 
-  pub plan_list : with_responses (plan_response (plan_of w s area x penalty)) 0 (plan_of w s area x penalty).count xs ≡ response_after w s area xs penalty
-  plan_list = go (plan_check w s area x penalty) refl ∙ sym (ap (λ (r : Check). pick_list r xs (responded s xs penalty)) same_check)
-    where
-      go : (r : Check) → plan_check w s area x penalty ≡ r
-          → with_responses (plan_response (pick_plan r x (table_after w s area zeros) penalty)) 0 (pick_plan r x (table_after w s area zeros) penalty).count xs
-          ≡ pick_list r xs (responded s xs penalty)
-      go Passed e =
-          ap (λ (k : ℕ). with_responses (times_response x (table_pair (table_after w s area zeros)) penalty) 0 k xs) count-is
-          ∙ set_same (times_response x (table_pair (table_after w s area zeros)) penalty) (record_response xs (file_pair s) penalty) 0 (length xs) xs
-          (λ i a b. same_time (all_planned e) i (omega arith))
-      go (Failed c a) e = sym (set-none (times_response x (table_pair (table_after w s area zeros)) 0) 0 xs)
+  -- the list that is set, and the one that is kept
+  pub plan_list : plan_check w s area x penalty ≡ Ok tt → with_responses (plan_response (plan_made w s area x penalty)) 0 (length xs) xs ≡ response_after w s area xs penalty
+  plan_list e =
+      set_same (times_response x (table_pair (table_after w s area zeros)) penalty) (record_response xs (file_pair s) penalty) 0 (length xs) xs (λ i a b. same_time (all_planned e) i (omega arith))
+      ∙ rw (same_check ∙ e)
+
+  pub plan_kept : {r : Refusal} → plan_check w s area x penalty ≡ Err r → xs ≡ response_after w s area xs penalty
+  plan_kept e = rw (same_check ∙ e)
+
+  -- by the plan that was found, and where none was
+  module _ {plan : Plan} (found : plan_of w s area x penalty ≡ Ok plan) where
+    passed : plan_check w s area x penalty ≡ Ok tt
+    passed = (answered_ok (plan_check w s area x penalty) (plan_made w s area x penalty) found).0
+
+    made : plan_made w s area x penalty ≡ plan
+    made = (answered_ok (plan_check w s area x penalty) (plan_made w s area x penalty) found).1
+
+    pub found_ready : Ready plan × (plan.times.count ≡ length xs)
+    found_ready = subst (λ (p : Plan). Ready p × (p.times.count ≡ length xs)) made (plan_ready passed)
+
+    pub found_list : {ys : List Record} → ys ≡ with_responses (plan_response plan) 0 (length xs) xs
+        → (Ok tt ≡ response_answer w s area xs penalty) × (ys ≡ response_after w s area xs penalty)
+    found_list e = (
+      sym (same_check ∙ passed),
+      e ∙ sym (ap (λ (p : Plan). with_responses (plan_response p) 0 (length xs) xs) made) ∙ plan_list passed,
+    )
+
+  pub none_found : {r : Refusal} {answer : Checked} → plan_of w s area x penalty ≡ Err r → answer ≡ Err r
+      → (answer ≡ response_answer w s area xs penalty) × (xs ≡ response_after w s area xs penalty)
+  none_found e q =
+      let f = answered_err (plan_check w s area x penalty) (plan_made w s area x penalty) e in
+      (q ∙ sym (same_check ∙ f), plan_kept f)

@@ -16,26 +16,27 @@ use Rattle.model.specs.States.{Fault11}
 use Rattle.model.specs.Tasks.{Allows, task}
 use Rattle.model.proofs.Most.{most_unique, pair_is}
 use Rattle.project.specs.File.{File, task_count}
-use Rattle.project.specs.Checklist.{Agreeing, numbers, one, no_task}
+use Rattle.project.specs.Checklist.{Agreeing, Verdict, numbers, one, no_task}
 use Rattle.project.specs.Checks.{Outside}
 use Rattle.project.specs.Reading.{outside, file_checks}
 use Rattle.project.specs.Tasks.{tasks_of, file_cache_in, file_cache, file_pair, PairNumbers}
-use Rattle.project.specs.Verdict.{FillingVerdict}
-use Rattle.project.proofs.Checklists.{agreeing_append, of_exact}
+use Rattle.project.proofs.Checklists.{verdict_exact, agreeing_append, of_exact}
 use Rattle.project.proofs.TaskFaults.{Bytes}
-use Rattle.project.proofs.Verdicts.{outside_exact, differ_exact, either_exact, file_agreeing, filling_verdict}
+use Rattle.project.proofs.Verdicts.{outside_exact, differ_exact, either_exact, file_agreeing}
 use Rattle.rows.specs.Rows.{area_length}
 use Rattle.graphs.specs.TaskRows.{test11}
-use Rattle.project.specs.declared.answers.Filling.TheVariants.{Filled, Refused}
+use Rattle.std.specs.Prelude.{Ok, Err}
+use Rattle.project.specs.declared.answers.Check.TheVariants.{WrongTimes}
+use Rattle.project.specs.declared.answers.Refusal.{Refusal}
 use Rattle.table.specs.Table.{full_checks, table_answer, table_after}
 use Rattle.table.proofs.TableVerdicts.{exact11}
-use Rattle.table.proofs.Entries.{filled-passed, refused_failed, table_entries}
+use Rattle.table.proofs.Entries.{table_entries}
 use Rattle.response.specs.declared.Record.{Record}
 use Rattle.response.specs.Response.{Answer, Fits}
 use Rattle.response.specs.Times.{record_of, record_side, record_response, late_mark, with_response}
 use Rattle.response.proofs.ResponseLaws.{answer_unique, same_answer, same_right}
 use Rattle.response.proofs.Answers.{answer-is, in_time}
-use Rattle.responses.specs.Responses.{largest_time, largest_penalty, Wrong, Fault21, wrong, any, wrong_record, test21, response_checks, response_check, response_answer, responded, response_after, Responded}
+use Rattle.responses.specs.Responses.{largest_time, largest_penalty, Wrong, Fault21, wrong, any, wrong_record, test21, response_checks, response_answer, responded, response_after, Responded}
 use Rattle.responses.proofs.TimesLaws.{any_has, any_some}
 use Rattle.responses.proofs.ListLaws.{set-length, set_at}
 
@@ -61,13 +62,13 @@ module _ (w : ℕ) (wide_enough : 16 ≤ w) (s : File) (h : Bytes s) (area : Lis
   response_agreeing : Agreeing (response_checks w s area xs penalty)
   response_agreeing = (
     differ_exact (length area) (area_length w),
-    λ p1. agreeing_append (file_checks s) (full_checks w s ++ (one 21 no_task (test21 (task_count s) xs penalty) (Fault21 (task_count s) xs penalty) ∷ [])) (file_agreeing s h)
+    λ p1. agreeing_append (file_checks s) (full_checks w s ++ (one WrongTimes no_task (test21 (task_count s) xs penalty) (Fault21 (task_count s) xs penalty) ∷ [])) (file_agreeing s h)
         (λ all. (of_exact (test11 (file_cache_in w s)) (Fault11 (file_cache s)) [] (tasks_of s) (exact11 w wide_enough s h area [] all), λ p11. (exact21 (task_count s) xs penalty, λ p21. tt))),
   )
 
   -- what the call answers, for every list of bytes, area, list of records and penalty
-  pub response_verdict : FillingVerdict (response_checks w s area xs penalty) (response_answer w s area xs penalty)
-  response_verdict = filling_verdict (response_checks w s area xs penalty) response_agreeing
+  pub response_verdict : Verdict (response_checks w s area xs penalty) (response_answer w s area xs penalty)
+  response_verdict = verdict_exact (response_checks w s area xs penalty) response_agreeing
 
   -- 1, those of the file, 11 and 21
   pub response_order : numbers (response_checks w s area xs penalty) ≡ 1 ∷ 2 ∷ 3 ∷ 4 ∷ 5 ∷ 6 ∷ 7 ∷ 8 ∷ 9 ∷ 11 ∷ 21 ∷ []
@@ -96,11 +97,11 @@ module _ (s : File) (xs : List Record) (penalty : ℕ) where
 
 -- what the call leaves: where it is done, the R and the marks of the document; "any refusal keeps the list"
 module _ (w : ℕ) (s : File) (area : List ℕ) (xs : List Record) (penalty : ℕ) where
-  pub response_filled : response_answer w s area xs penalty ≡ Filled → Responded s xs penalty (response_after w s area xs penalty)
-  response_filled e = rw (filled-passed (response_check w s area xs penalty) e) (responded-is s xs penalty)
+  pub response_filled : response_answer w s area xs penalty ≡ Ok tt → Responded s xs penalty (response_after w s area xs penalty)
+  response_filled e = rw e (responded-is s xs penalty)
 
-  pub response_kept : {c a : ℕ} → response_answer w s area xs penalty ≡ Refused c a → response_after w s area xs penalty ≡ xs
-  response_kept e = rw (refused_failed (response_check w s area xs penalty) e) refl
+  pub response_kept : {r : Refusal} → response_answer w s area xs penalty ≡ Err r → response_after w s area xs penalty ≡ xs
+  response_kept e = rw e
 
 -- the pair numbers over paths are the computed ones, and so "where table answers" its entries
 pub pairs_only : (s : File) (pair : ℕ → ℕ → ℕ) → PairNumbers s pair → (i j : ℕ) → pair i j ≡ file_pair s i j
@@ -111,7 +112,7 @@ pairs_only s pair h i j =
     most_unique (useful_replaced k) k a b (Allows a) (pair i j) (file_pair s i j) (h i j) (pair_is k a b)
 
 pub responded-entries : (w : ℕ) (s : File) (xs : List Record) (penalty : ℕ) (ys : List Record) (x : Responded s xs penalty ys) (area table : List ℕ)
-    → table_answer w s area table ≡ Filled → (i j : ℕ) → i < task_count s → j < task_count s → j ≢ i
+    → table_answer w s area table ≡ Ok tt → (i j : ℕ) → i < task_count s → j < task_count s → j ≢ i
     → get_or (table_after w s area table) (8 * i + j) 0 ≡ x.pair i j
 responded-entries w s xs penalty ys x area table e i j hi hj d = table_entries w s area table e i j hi hj d ∙ sym (pairs_only s x.pair x.numbers i j)
 

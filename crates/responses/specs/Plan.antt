@@ -1,11 +1,9 @@
 -- What is to be set in a response time list, as the call decides it. Definitions only.
-use Rattle.std.specs.Prelude.{Bool, true, false, not, ◌||◌, List, [], ◌∷◌, ℕ, ◌+◌, ◌≤◌, ◌<◌, eqb, ltb, leb, length, get_or, take, replicate}
-use Rattle.project.specs.declared.answers.Check.{Check}
-use Rattle.project.specs.declared.answers.Check.TheVariants.{Passed}
-use Rattle.project.specs.declared.answers.Check.TheVariants.{Refused as Failed}
-use Rattle.project.specs.declared.answers.Filling.TheVariants.{Filled, Refused}
+use Rattle.std.specs.Prelude.{Bool, true, false, not, ◌||◌, List, [], ◌∷◌, ℕ, ◌+◌, ◌≤◌, ◌<◌, eqb, ltb, leb, length, get_or, take, replicate, Result}
+use Rattle.project.specs.declared.answers.Check.TheVariants.{WrongTimes}
+use Rattle.project.specs.declared.answers.Refusal.{Refusal}
 use Rattle.project.specs.File.{File, task_count}
-use Rattle.project.specs.Checklist.{and_then, unless, no_task}
+use Rattle.project.specs.Checklist.{Checked, and_then, unless, no_task, answered}
 use Rattle.rows.specs.Rows.{Area}
 use Rattle.table.specs.Table.{table_check, table_after}
 use Rattle.response.specs.declared.Record.{Record}
@@ -41,23 +39,16 @@ times_test21 t x penalty = not (eqb x.count t) || (ltb largest_penalty penalty |
 
 -- ---- the plan
 
--- no record is set: "any refusal keeps the list"
-abbrev pub refused_plan : Times → List ℕ → ℕ → ℕ → Plan
-refused_plan x numbers c a = record { times = x; numbers = numbers; penalty = 0; count = 0; answer = Refused c a }
+-- by Table, on a table of zeros, and then check 21
+abbrev pub plan_check : ℕ → File → Area → Times → ℕ → Checked
+plan_check w s area x penalty = and_then (table_check w s area (replicate 64 0)) (unless WrongTimes no_task (times_test21 (task_count s) x penalty))
 
-abbrev pub pick_plan : Check → Times → List ℕ → ℕ → Plan
-pick_plan Passed x numbers penalty = record { times = x; numbers = numbers; penalty = penalty; count = x.count; answer = Filled }
-pick_plan (Failed c a) x numbers penalty = refused_plan x numbers c a
+-- what is to be set where the checks pass
+abbrev pub plan_made : ℕ → File → Area → Times → ℕ → Plan
+plan_made w s area x penalty = record { times = x; numbers = table_after w s area (replicate 64 0); penalty = penalty }
 
-abbrev pub decided_plan : ℕ → Times → List ℕ → ℕ → Plan
-decided_plan t x numbers penalty = pick_plan (unless 21 no_task (times_test21 t x penalty)) x numbers penalty
-
--- by Table, on a table of zeros
-abbrev pub plan_check : ℕ → File → Area → Times → ℕ → Check
-plan_check w s area x penalty = and_then (table_check w s area (replicate 64 0)) (unless 21 no_task (times_test21 (task_count s) x penalty))
-
-abbrev pub plan_of : ℕ → File → Area → Times → ℕ → Plan
-plan_of w s area x penalty = pick_plan (plan_check w s area x penalty) x (table_after w s area (replicate 64 0)) penalty
+abbrev pub plan_of : ℕ → File → Area → Times → ℕ → Result Plan Refusal
+plan_of w s area x penalty = answered (plan_check w s area x penalty) (plan_made w s area x penalty)
 
 -- R of task i by a plan
 abbrev pub plan_response : Plan → ℕ → ℕ
@@ -65,6 +56,6 @@ plan_response p i = times_response p.times (table_pair p.numbers) p.penalty i
 
 -- what a plan keeps
 pub record Ready (p : Plan) : Type 0 where
-  pub few : p.count ≤ 8
+  pub few : p.times.count ≤ 8
   pub low : p.penalty ≤ 1000
-  pub each : (j : ℕ) → j < p.count → TaskTimes p.times j
+  pub each : (j : ℕ) → j < p.times.count → TaskTimes p.times j

@@ -1,14 +1,10 @@
 -- Document 02, Point 8: response times of the tasks of a file, by Table for rows of w places. Definitions only.
 use Rattle.std.specs.Prelude.{◌≡◌, ◌≢◌, ◌⊎◌, Bool, false, not, ◌||◌, List, [], ◌∷◌, ◌++◌, ℕ, zero, suc, ◌<◌, eqb, ltb, length}
-use Rattle.project.specs.declared.answers.Check.{Check}
-use Rattle.project.specs.declared.answers.Check.TheVariants.{Passed}
-use Rattle.project.specs.declared.answers.Check.TheVariants.{Refused as Failed}
-use Rattle.project.specs.declared.answers.Filling.{Filling}
+use Rattle.project.specs.declared.answers.Check.TheVariants.{ListLength, WrongTimes}
 use Rattle.project.specs.File.{File, task_count}
-use Rattle.project.specs.Checklist.{Entry, one, no_task, verdict_of}
+use Rattle.project.specs.Checklist.{Entry, one, no_task, Checked, verdict_of, left_by}
 use Rattle.project.specs.Checks.{Outside}
 use Rattle.project.specs.Reading.{outside, file_checks}
-use Rattle.project.specs.Filling.{pick_filling}
 use Rattle.project.specs.Tasks.{file_pair, PairNumbers}
 use Rattle.rows.specs.Rows.{Area, area_length}
 use Rattle.table.specs.Table.{full_checks}
@@ -62,26 +58,22 @@ test21 t xs penalty = not (eqb (length xs) t) || (ltb largest_penalty penalty ||
 -- 1, those of the file, 11 as Table gives it, and "21, .. after 11"
 abbrev pub response_checks : ℕ → File → Area → List Record → ℕ → List Entry
 response_checks w s area xs penalty =
-    one 1 no_task (test1 w area) (Fault1 w area)
-    ∷ (file_checks s ++ (full_checks w s ++ (one 21 no_task (test21 (task_count s) xs penalty) (Fault21 (task_count s) xs penalty) ∷ [])))
+    one ListLength no_task (test1 w area) (Fault1 w area)
+    ∷ (file_checks s ++ (full_checks w s ++ (one WrongTimes no_task (test21 (task_count s) xs penalty) (Fault21 (task_count s) xs penalty) ∷ [])))
 
-abbrev pub response_check : ℕ → File → Area → List Record → ℕ → Check
+abbrev pub response_check : ℕ → File → Area → List Record → ℕ → Checked
 response_check w s area xs penalty = verdict_of (response_checks w s area xs penalty)
 
-abbrev pub response_answer : ℕ → File → Area → List Record → ℕ → Filling
-response_answer w s area xs penalty = pick_filling (response_check w s area xs penalty)
+abbrev pub response_answer : ℕ → File → Area → List Record → ℕ → Checked
+response_answer w s area xs penalty = response_check w s area xs penalty
 
 -- every record with its R, by the pair numbers of the file
 abbrev pub responded : File → List Record → ℕ → List Record
 responded s xs penalty = with_responses (record_response xs (file_pair s) penalty) 0 (length xs) xs
 
-abbrev pub pick_list : Check → List Record → List Record → List Record
-pick_list Passed old new = new
-pick_list (Failed c a) old new = old
-
 -- "any refusal keeps the list"
 abbrev pub response_after : ℕ → File → Area → List Record → ℕ → List Record
-response_after w s area xs penalty = pick_list (response_check w s area xs penalty) xs (responded s xs penalty)
+response_after w s area xs penalty = left_by (response_check w s area xs penalty) (responded s xs penalty) xs
 
 -- ---- what an answered list says, in the document's words
 

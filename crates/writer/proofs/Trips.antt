@@ -9,8 +9,7 @@ use lib.Dec.{ltb}
 use lib.ListN.{length, take, drop, length-append}
 use lib.Seq.{take_at, take-append_seam, drop-append_seam}
 use borrow.Author.Tests.{eq-eqb, ltb-false, le-ltb}
-use Rattle.std.specs.Prelude.{Ok, Err}
-use Rattle.project.specs.Checklist.{Checked, answered}
+use Rattle.std.specs.Prelude.{Ok}
 use Rattle.project.specs.File.{edition, cache_blocks, task_count, bodies, joined, file_in}
 use Rattle.project.specs.Reading.{test4, test5, count_test, tasks_check, Reading, reading_up_to}
 use Rattle.project.specs.Writing.{total, cut, file_length, writer_check_in, writing_in, out_in}
@@ -19,7 +18,7 @@ use Rattle.project.proofs.RoundTrips.{length-file, length-bodies, file-bodies}
 use Rattle.project.proofs.Accepted.{or_false_left, passing_up_to, accepted_up_to, written_accepted, written_again}
 use Rattle.writer.proofs.PutLaws.{length_cut, joined-cut}
 use Rattle.writer.proofs.CheckLaws.{written, all-passed, at_none, answer_written}
-use Rattle.project.proofs.Checklists.{ok-not-err}
+use Rattle.project.proofs.Checklists.{answered_ok}
 
 -- ---- what is written is read
 
@@ -29,11 +28,9 @@ accepted_with n t = Ok (record { n = n; t = t })
 
 module _ (k n : ℕ) (s ls out : List ℕ) (some : 1 ≤ k) where
   written_passed : (l : ℕ) → writing_in k n s ls out ≡ Ok l → (writer_check_in k n s ls out ≡ Ok tt) × (l ≡ file_length k s ls)
-  written_passed l e = go (writer_check_in k n s ls out) refl e
-    where
-      go : (r : Checked) → writer_check_in k n s ls out ≡ r → answered r (file_length k s ls) ≡ Ok l → (writer_check_in k n s ls out ≡ Ok tt) × (l ≡ file_length k s ls)
-      go (Ok x) q e = (q, cc)
-      go (Err x) q e = absurd (ok-not-err (sym e))
+  written_passed l e =
+      let (q, same) = answered_ok (writer_check_in k n s ls out) (file_length k s ls) e in
+      (q, sym same)
 
   pub length_written : total ls ≡ length s → length (file_in k n (cut s ls)) ≡ file_length k s ls
   length_written e = length-file k n (cut s ls) some ∙ rw (length_cut s ls, joined-cut s ls e)

@@ -1,35 +1,32 @@
 -- `planned` meets its contract: what Table answers decides first, and then check 21. Assumes nothing.
-use mathlib.Core.Path.{◌∙◌}
 use native.Mathlib.Omega.{arith}
-use Rattle.responses.proofs.PlanLaws.{plan_passing, plan_refused, plan_decided}
+use Rattle.project.proofs.Checklists.{refused_by}
+use Rattle.responses.proofs.PlanLaws.{plan_passing, plan_refused, plan_wrong, plan_decided}
 use Rattle.responses.proofs.plan.planned.Goals as goal
 
 pub bounds-file-6 : goal.bounds-file-6
-bounds-file-6 c =
-    let args = c.args in
-    let p = plan_passing 16 args.file.now args.area.now c.table.ensures.0 c.in-Filled.is in
-    omega (arith, p.long)
+bounds-file-6 c = omega (arith, (plan_passing 16 c.args.file.now c.args.area.now c.args.times c.args.penalty c.table.ensures.0 c.in_ok-table.was).long)
 
-pub decided-requires : goal.decided-requires
-decided-requires c =
-    let args = c.args in
-    let p = plan_passing 16 args.file.now args.area.now c.table.ensures.0 c.in-Filled.is in
-    omega (arith, p.t_high, c.byte_count.ensures.0)
+pub is_refused-requires : goal.is_refused-requires
+is_refused-requires c =
+    omega (arith, (plan_passing 16 c.args.file.now c.args.area.now c.args.times c.args.penalty c.table.ensures.0 c.in_ok-table.was).t_high, c.byte_count.ensures.0)
 
-pub returns-in-Refused : goal.returns-in-Refused
-returns-in-Refused c =
-    let args = c.args in
-    let answer = c.table in (
-      c.refused_plan.ensures
-          ∙ plan_refused 16 args.file.now args.area.now answer.ensures.0 args.times args.penalty c.in-Refused.is answer.ensures.1,
-      answer.ensures.2,
-    )
+pub returns-in_err-table : goal.returns-in_err-table
+returns-in_err-table c = (
+  plan_refused 16 c.args.file.now c.args.area.now c.args.times c.args.penalty c.table.ensures.0 c.in_err-table.was (refused_by c.from_residual.ensures),
+  c.table.ensures.2,
+)
 
-pub returns-in-Filled : goal.returns-in-Filled
-returns-in-Filled c =
-    let args = c.args in
-    let answer = c.table in (
-      plan_decided 16 args.file.now args.area.now answer.ensures.0 c.in-Filled.is args.times args.penalty c.byte_count.ensures.0
-          c.wide.ensures answer.ensures.1 c.decided.ensures,
-      answer.ensures.2,
-    )
+pub returns-then-is_refused : goal.returns-then-is_refused
+returns-then-is_refused c = (
+  plan_wrong 16 c.args.file.now c.args.area.now c.args.times c.args.penalty c.table.ensures.0 c.in_ok-table.was c.byte_count.ensures.0 c.from-penalty.ensures
+      c.is_refused.ensures c.if-is_refused.true c.into.ensures,
+  c.table.ensures.2,
+)
+
+pub returns : goal.returns
+returns c = (
+  plan_decided 16 c.args.file.now c.args.area.now c.args.times c.args.penalty c.table.ensures.0 c.in_ok-table.was c.byte_count.ensures.0 c.from-penalty.ensures
+      c.is_refused.ensures c.if-is_refused.false c.table.ensures.1,
+  c.table.ensures.2,
+)
