@@ -6,42 +6,17 @@ ghost use Rattle.std.specs.Prelude.{◌≡◌, ◌≤◌, ◌<◌, length};
 use example_files::{
     APART, E, ENTERED, MASKED, SHARED_BOTH, SHARED_GAIN, SHARED_SAME, TWICE, with_byte,
 };
-use project::answers::{Filling, Reading, Writing};
-use replay::Replaying;
+use project::answers::{Accepted, Refusal};
+use replay::Counted;
 
-// Prints the text. A failed write is passed over: what the program prints is compared as a whole.
-fn print(rt: &impl Print, text: &str) {
-    let _ = rt.print(text);
-}
-
-fn print_number(rt: &impl Print, x: u64) {
-    let _ = rt.print(x);
-}
-
-// Two numbers, each after its name, and the end of the line.
-fn print_numbers(rt: &impl Print, first_name: &str, first: u64, second_name: &str, second: u64) {
-    print(rt, first_name);
-    print_number(rt, first);
-    print(rt, second_name);
-    print_number(rt, second);
-    print(rt, "\n");
-}
-
-fn print_refusal(rt: &impl Print, check: u8, task: u8) {
-    print_numbers(rt, ": refused ", check as u64, " task ", task as u64);
-}
+// A failed write is passed over, here and below: what the program prints is compared as a whole.
 
 // What reading the file answers.
 fn show_reading(rt: &impl Print, name: &str, file: &[u8]) {
-    print(rt, name);
-    match reader::read(file) {
-        Reading::Accepted { n, t } => {
-            print_numbers(rt, ": cache ", n as u64, " tasks ", t as u64);
-        }
-        Reading::Refused { check, task } => {
-            print_refusal(rt, check, task);
-        }
-    }
+    let _ = match reader::read(file) {
+        Ok(Accepted { n, t }) => println!(rt; "{name}: cache {n} tasks {t}"),
+        Err(refused) => println!(rt; "{name}: {refused}"),
+    };
 }
 
 // What reading E with another byte answers.
@@ -78,9 +53,10 @@ fn show_bodies(rt: &impl Print) {
 // Where the body of a task of E stands, and how long it is.
 fn show_place(rt: &impl Print, task: usize) {
     let found = reader::place(&E, task);
-    print(rt, "body of task ");
-    print_number(rt, task as u64);
-    print_numbers(rt, " of E: ", found.start as u64, ", ", found.length as u64);
+    let _ = println!(rt;
+        "body of task {task} of E: {}, {}",
+        found.start, found.length
+    );
 }
 
 // What writing the joined bodies answers, in an out list of so many bytes.
@@ -88,17 +64,10 @@ fn show_writing(rt: &impl Print, name: &str, n: u8, bodies: &[u8], lengths: &[us
     requires { room ≤ 34 }
 {
     let mut out = [0u8; 34];
-    print(rt, name);
-    match writer::write(n, bodies, lengths, &mut out[0..room]) {
-        Writing::Written { length } => {
-            print(rt, ": written ");
-            print_number(rt, length as u64);
-            print(rt, "\n");
-        }
-        Writing::Refused { check, task } => {
-            print_refusal(rt, check, task);
-        }
-    }
+    let _ = match writer::write(n, bodies, lengths, &mut out[0..room]) {
+        Ok(length) => println!(rt; "{name}: written {length}"),
+        Err(refused) => println!(rt; "{name}: {refused}"),
+    };
 }
 
 // Whether a file with E's n and contents, written again from its bodies, is that file.
@@ -107,11 +76,12 @@ fn show_same(rt: &impl Print, name: &str, file: &[u8])
 {
     let lengths = [10usize, 7];
     let mut out = [0u8; 33];
-    writer::write(2, &file[16..33], &lengths, &mut out);
-    print(rt, name);
-    if check::same(&out, file) {
-        print(rt, " again: the same bytes\n");
-    }
+    let _ = writer::write(2, &file[16..33], &lengths, &mut out);
+    let _ = if check::same(&out, file) {
+        println!(rt; "{name} again: the same bytes")
+    } else {
+        print!(rt; "{name}")
+    };
 }
 
 // The writer's answers for the bodies of E.
@@ -128,15 +98,11 @@ fn show_writings(rt: &impl Print) {
 }
 
 // What filling answers.
-fn show_filling(rt: &impl Print, answer: Filling) {
-    match answer {
-        Filling::Filled => {
-            print(rt, ": filled\n");
-        }
-        Filling::Refused { check, task } => {
-            print_refusal(rt, check, task);
-        }
-    }
+fn show_filling(rt: &impl Print, answer: Result<(), Refusal>) {
+    let _ = match answer {
+        Ok(()) => println!(rt; ": filled"),
+        Err(refused) => println!(rt; ": {refused}"),
+    };
 }
 
 // Table of E, with a work area and a table of so many numbers.
@@ -145,10 +111,7 @@ fn show_table(rt: &impl Print, area_length: usize, table_length: usize)
 {
     let mut area = [0u16; 24833];
     let mut numbers = [0u16; 65];
-    print(rt, "Table of E, work area of ");
-    print_number(rt, area_length as u64);
-    print(rt, ", table of ");
-    print_number(rt, table_length as u64);
+    let _ = print!(rt; "Table of E, work area of {area_length}, table of {table_length}");
     show_filling(
         rt,
         table::table(&E, &mut area[0..area_length], &mut numbers[0..table_length]),
@@ -160,10 +123,7 @@ fn show_states(rt: &impl Print, task: usize, area_length: usize)
     requires { area_length ≤ 24833 }
 {
     let mut area = [0u16; 24833];
-    print(rt, "States of task ");
-    print_number(rt, task as u64);
-    print(rt, " of E, work area of ");
-    print_number(rt, area_length as u64);
+    let _ = print!(rt; "States of task {task} of E, work area of {area_length}");
     show_filling(
         rt,
         states::states::states(&E, task, &mut area[0..area_length]),
@@ -185,30 +145,18 @@ fn show_fillings(rt: &impl Print) {
 
 // What replaying a sheet on a file answers.
 fn show_replay_on(rt: &impl Print, file_name: &str, file: &[u8], name: &str, sheet: &[u16]) {
-    print(rt, "Replay on ");
-    print(rt, file_name);
-    print(rt, " of ");
-    print(rt, name);
-    match replay::replay(file, sheet) {
-        Replaying::Counted {
-            undisturbed,
-            disturbed,
-            lost,
-        } => {
-            print(rt, ": U = ");
-            print_number(rt, undisturbed as u64);
-            print_numbers(
-                rt,
-                ", D = ",
-                disturbed as u64,
-                ", lost hits = ",
-                lost as u64,
-            );
-        }
-        Replaying::Refused { check, task } => {
-            print_refusal(rt, check, task);
-        }
-    }
+    let _ = match replay::replay(file, sheet) {
+        Ok(
+            Counted {
+                undisturbed,
+                disturbed,
+                lost,
+            },
+        ) => println!(rt;
+            "Replay on {file_name} of {name}: U = {undisturbed}, D = {disturbed}, lost hits = {lost}"
+        ),
+        Err(refused) => println!(rt; "Replay on {file_name} of {name}: {refused}"),
+    };
 }
 
 // What replaying a sheet on E answers.
