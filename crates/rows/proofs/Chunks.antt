@@ -6,6 +6,7 @@ use mathlib.Core.List.{List, [], ◌∷◌, ◌++◌}
 use Prim.Native.Nat.{ℕ, zero, suc, ◌+◌, ◌-◌, ◌≤◌}
 use native.Mathlib.Omega.{arith}
 use lib.Dec.{eqb}
+use lib.Pointwise.{pointwise}
 use lib.ListN.{length, take, drop, length-drop}
 use lib.Seq.{take-add, take_at, drop_at, drop-drop, take_all, length-take-le}
 use Rattle.cache.specs.References.{nothing}
@@ -44,13 +45,22 @@ drop_same (suc i) [] (y ∷ b) e = absurd (omega arith)
 drop_same (suc i) (x ∷ a) [] e = absurd (omega arith)
 drop_same (suc i) (x ∷ a) (y ∷ b) e = drop_same i a b (omega arith)
 
--- a turn: s tells whether the chunks from i on, which the code read and lent, are the same
-pub same_turn : (n i j : ℕ) (a b : List ℕ) {chunk : List ℕ} {s : Bool} → j ≡ i + n → length a ≡ length b → chunk ≡ take n (drop i a)
-    → s ≡ same_list chunk (take (i + n - i) (drop i b)) → same_list (drop i a) (drop i b) ≡ (s && same_list (drop j a) (drop j b))
-same_turn n i j a b f e q h =
-    let m : i + n - i ≡ n = omega arith in
+same-pointwise : (a b : List ℕ) → pointwise eqb a b ≡ same_list a b
+same-pointwise [] [] = refl
+same-pointwise [] (y ∷ b) = refl
+same-pointwise (x ∷ a) [] = refl
+same-pointwise (x ∷ a) (y ∷ b) = ap (λ (t : Bool). eqb x y && t) (same-pointwise a b)
+
+-- `==` of two chunks
+pub same_chunks : {a b : List ℕ} {s : Bool} (c d : List ℕ) → s ≡ pointwise eqb a b → a ≡ c → b ≡ d → s ≡ same_list c d
+same_chunks {a} {b} c d e q r = e ∙ same-pointwise a b ∙ ap₂ same_list q r
+
+-- a turn: s tells whether the chunks from i on are the same
+pub same_turn : (n i j : ℕ) (a b : List ℕ) {s : Bool} → j ≡ i + n → length a ≡ length b → s ≡ same_list (take n (drop i a)) (take n (drop i b))
+    → same_list (drop i a) (drop i b) ≡ (s && same_list (drop j a) (drop j b))
+same_turn n i j a b f e h =
     same_split n (drop i a) (drop i b) (drop_same i a b e)
-    ∙ ap₂ (λ (x y : Bool). x && y) (sym (h ∙ ap₂ (λ (x : List ℕ) (z : ℕ). same_list x (take z (drop i b))) q m)) (rw (f, drop-drop n i a, drop-drop n i b))
+    ∙ ap₂ (λ (x y : Bool). x && y) (sym h) (rw (f, drop-drop n i a, drop-drop n i b))
 
 -- ---- copies
 

@@ -43,14 +43,18 @@ rows_next w n k l h =
 pub search_start : (w n : ℕ) (l row : List ℕ) → mem same_list row (rows_of w (n - 0) (drop (w * 0) l)) ≡ mem same_list row (rows_of w n l)
 search_start w n l row = rw (sub-zero n, mul-zero w)
 
--- a turn: b tells whether the row is the one numbered k, which was lent as a part from w k to w k + w
+-- a turn: b tells whether the row is the one numbered k
+pub search_at : (w n k : ℕ) (l row : List ℕ) {b : Bool} → k < n → b ≡ same_list row (take w (drop (w * k) l))
+    → mem same_list row (rows_of w (n - k) (drop (w * k) l)) ≡ (b || mem same_list row (rows_of w (n - (k + 1)) (drop (w * (k + 1)) l)))
+search_at w n k l row h e =
+    ap (mem same_list row) (rows_next w n k l h) ∙ ap (λ (t : Bool). t || mem same_list row (rows_of w (n - (k + 1)) (drop (w * (k + 1)) l))) (sym e)
+
+-- the same where that row was lent as a part from w k to w k + w
 pub search_turn : (w n k : ℕ) (l row : List ℕ) {b : Bool} → k < n → b ≡ same_list row (take (w * k + w - w * k) (drop (w * k) l))
     → mem same_list row (rows_of w (n - k) (drop (w * k) l)) ≡ (b || mem same_list row (rows_of w (n - (k + 1)) (drop (w * (k + 1)) l)))
 search_turn w n k l row h e =
     let s : w * k + w - w * k ≡ w = omega arith in
-    ap (mem same_list row) (rows_next w n k l h)
-    ∙ ap (λ (t : Bool). t || mem same_list row (rows_of w (n - (k + 1)) (drop (w * (k + 1)) l)))
-    (sym (e ∙ ap (λ (m : ℕ). same_list row (take m (drop (w * k) l))) s))
+    search_at w n k l row h (e ∙ ap (λ (m : ℕ). same_list row (take m (drop (w * k) l))) s)
 
 pub search_end : (w n k : ℕ) (l row : List ℕ) → n ≤ k → mem same_list row (rows_of w (n - k) l) ≡ false
 search_end w n k l row h = let e : n - k ≡ 0 = omega arith in rw e

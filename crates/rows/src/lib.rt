@@ -10,18 +10,18 @@ ghost use Rattle.rows.specs.Append.{put, appended, part_after};
 
 use cache::row::Row;
 
-// Sixteen numbers, with what `over` holds at each place where that is not nothing.
-fn overlay_chunk(row: [u16; 16], over: &[u16]) -> [u16; 16]
-    requires { length over.now ≡ 16 }
-    ensures { result ≡ overlay row over.now }
+// The row gets what `over` holds at each place where that is not nothing.
+#[inline(always)]
+pub fn overlay_onto(over: &[u16], row: &mut [u16])
+    requires { length over.now ≡ length row.old }
+    ensures { row.new ≡ overlay row.old over.now }
 {
-    let mut held = row;
-    for c in 0..16 {
+    // By index: both rows are read at the same place. Each number is chosen, so that the compiled code has no jump.
+    for c in 0..over.len() {
         let m = over[c];
-        let kept = held[c];
-        held[c] = if m == Row::NOTHING { kept } else { m };
+        let kept = row[c];
+        row[c] = if m == Row::NOTHING { kept } else { m };
     }
-    held
 }
 
 // The sixteen numbers from `at` on.
@@ -30,24 +30,8 @@ pub fn chunk_at(part: &[u16], at: usize) -> [u16; 16]
     ensures { result ≡ take 16 (drop at part.now) }
 {
     let mut row = [0u16; 16];
-    for i in 0..16 {
-        row[i] = part[at + i];
-    }
+    row.copy_from_slice(&part[at..at + 16]);
     row
-}
-
-// Whether the sixteen numbers are the same.
-fn same_chunk(row: [u16; 16], other: &[u16]) -> bool
-    requires { length other.now ≡ 16 }
-    ensures { result ≡ same_list row other.now }
-{
-    let mut same = true;
-    for i in 0..16 {
-        if row[i] != other[i] {
-            same = false;
-        }
-    }
-    same
 }
 
 // Sixteen numbers are stored from `at` on.
@@ -55,9 +39,7 @@ pub fn store_chunk(part: &mut [u16], at: usize, row: [u16; 16])
     requires { at + 16 ≤ length part.old }
     ensures { part.new ≡ put part.old at row }
 {
-    for i in 0..16 {
-        part[at + i] = row[i];
-    }
+    part[at..at + 16].copy_from_slice(&row);
 }
 
 // `out` becomes the row, with what `over` holds at each place where that is not nothing.
@@ -67,7 +49,8 @@ pub fn overlay_row(row: &[u16], over: &[u16], out: &mut [u16])
 {
     for h in 0..row.len() / 16 {
         let at = 16 * h;
-        let chunk = overlay_chunk(chunk_at(row, at), &over[at..at + 16]);
+        let mut chunk = chunk_at(row, at);
+        overlay_onto(&over[at..at + 16], &mut chunk);
         store_chunk(out, at, chunk);
     }
 }
@@ -79,7 +62,7 @@ pub fn same_row(row: &[u16], other: &[u16]) -> bool
 {
     for h in 0..row.len() / 16 {
         let at = 16 * h;
-        if !same_chunk(chunk_at(row, at), &other[at..at + 16]) {
+        if chunk_at(row, at) != chunk_at(other, at) {
             return false;
         }
     }
@@ -91,10 +74,7 @@ pub fn copy_row(row: &[u16], out: &mut [u16])
     requires { (length row.now % 16 ≡ 0) × (length out.old ≡ length row.now) }
     ensures { out.new ≡ row.now }
 {
-    for h in 0..row.len() / 16 {
-        let at = 16 * h;
-        store_chunk(out, at, chunk_at(row, at));
-    }
+    out.copy_from_slice(row);
 }
 
 // Whether the sixteen numbers are among the first `count` rows of sixteen numbers.
@@ -103,7 +83,7 @@ fn holds_chunk(part: &[u16], count: usize, row: [u16; 16]) -> bool
     ensures { result ≡ mem same_list row (rows_of 16 count part.now) }
 {
     for k in 0..count {
-        if same_chunk(row, &part[16 * k..16 * k + 16]) {
+        if row == chunk_at(part, 16 * k) {
             return true;
         }
     }
