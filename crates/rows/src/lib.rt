@@ -10,27 +10,31 @@ ghost use Rattle.rows.specs.Append.{put, appended, part_after};
 
 use cache::row::Row;
 
-// The row gets what `over` holds at each place where that is not nothing.
-#[inline(always)]
-pub fn overlay_onto(over: &[u16], row: &mut [u16])
-    requires { length over.now ≡ length row.old }
-    ensures { row.new ≡ overlay row.old over.now }
+// Sixteen numbers, with what `over` holds at each place where that is not nothing.
+fn overlay_chunk(row: [u16; 16], over: &[u16]) -> [u16; 16]
+    requires { length over.now ≡ 16 }
+    ensures { result ≡ overlay row over.now }
 {
-    // By index: both rows are read at the same place. Each number is chosen, so that the compiled code has no jump.
-    for c in 0..over.len() {
+    // By index: two lists are read at the same place. An array by value, with each number chosen, stays in registers and needs no jump.
+    let mut held = row;
+    for c in 0..16 {
         let m = over[c];
-        let kept = row[c];
-        row[c] = if m == Row::NOTHING { kept } else { m };
+        let kept = held[c];
+        held[c] = if m == Row::NOTHING { kept } else { m };
     }
+    held
 }
 
-// The sixteen numbers from `at` on.
-pub fn chunk_at(part: &[u16], at: usize) -> [u16; 16]
-    requires { at + 16 ≤ length part.now }
-    ensures { result ≡ take 16 (drop at part.now) }
+// The N numbers from `at` on.
+pub fn chunk_at<const N: usize>(part: &[u16], at: usize) -> [u16; N]
+    requires { at + N ≤ length part.now }
+    ensures { result ≡ take N (drop at part.now) }
 {
-    let mut row = [0u16; 16];
-    row.copy_from_slice(&part[at..at + 16]);
+    // By index: the compiled code of copy_from_slice tests whether the two overlap, and goes through memory.
+    let mut row = [0u16; N];
+    for i in 0..N {
+        row[i] = part[at + i];
+    }
     row
 }
 
@@ -39,7 +43,10 @@ pub fn store_chunk(part: &mut [u16], at: usize, row: [u16; 16])
     requires { at + 16 ≤ length part.old }
     ensures { part.new ≡ put part.old at row }
 {
-    part[at..at + 16].copy_from_slice(&row);
+    // By index, as in `chunk_at`.
+    for i in 0..16 {
+        part[at + i] = row[i];
+    }
 }
 
 // `out` becomes the row, with what `over` holds at each place where that is not nothing.
@@ -49,24 +56,9 @@ pub fn overlay_row(row: &[u16], over: &[u16], out: &mut [u16])
 {
     for h in 0..row.len() / 16 {
         let at = 16 * h;
-        let mut chunk = chunk_at(row, at);
-        overlay_onto(&over[at..at + 16], &mut chunk);
+        let chunk = overlay_chunk(chunk_at(row, at), &over[at..at + 16]);
         store_chunk(out, at, chunk);
     }
-}
-
-// Whether the rows are the same.
-pub fn same_row(row: &[u16], other: &[u16]) -> bool
-    requires { (length row.now % 16 ≡ 0) × (length other.now ≡ length row.now) }
-    ensures { result ≡ same_list row.now other.now }
-{
-    for h in 0..row.len() / 16 {
-        let at = 16 * h;
-        if chunk_at(row, at) != chunk_at(other, at) {
-            return false;
-        }
-    }
-    true
 }
 
 // `out` becomes the row.
@@ -77,35 +69,30 @@ pub fn copy_row(row: &[u16], out: &mut [u16])
     out.copy_from_slice(row);
 }
 
-// Whether the sixteen numbers are among the first `count` rows of sixteen numbers.
-fn holds_chunk(part: &[u16], count: usize, row: [u16; 16]) -> bool
-    requires { (count ≤ 32) × (length part.now ≡ 32 * 16) }
-    ensures { result ≡ mem same_list row (rows_of 16 count part.now) }
+// Whether the N numbers are among the first `count` rows of N numbers.
+fn holds<const N: usize>(part: &[u16], count: usize, row: [u16; N]) -> bool
+    requires { (count ≤ 32) × (N ≤ 32) × (length part.now ≡ 32 * N) }
+    ensures { result ≡ mem same_list row.entry (rows_of N count part.now) }
 {
     for k in 0..count {
-        if row == chunk_at(part, 16 * k) {
+        if row == chunk_at(part, N * k) {
             return true;
         }
     }
     false
 }
 
-// Whether the row is among the first `count` rows of the part. A row of one chunk stays in registers.
+// Whether the row is among the first `count` rows of the part. A row of known width stays in registers.
 pub fn holds_row(part: &[u16], count: usize, row: &[u16]) -> bool
     requires { (count ≤ 32) × (length row.now % 16 ≡ 0) × (length row.now ≤ 32) × (length part.now ≡ 32 * length row.now) }
     ensures { result ≡ mem same_list row.now (rows_of (length row.now) count part.now) }
 {
-    let w = row.len();
-    if w == 16 {
-        return holds_chunk(part, count, chunk_at(row, 0));
+    match row.len() {
+        16 => holds(part, count, chunk_at::<16>(row, 0)),
+        32 => holds(part, count, chunk_at::<32>(row, 0)),
+        // Rows of no number are all the same.
+        _ => 0 < count,
     }
-    for k in 0..count {
-        let at = w * k;
-        if same_row(row, &part[at..at + w]) {
-            return true;
-        }
-    }
-    false
 }
 
 // What became of a row that was to be one of a block's rows.

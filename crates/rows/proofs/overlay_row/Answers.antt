@@ -12,8 +12,8 @@ use Rattle.rows.proofs.overlay_row.Goals as goal
 pub loop-h-init : goal.loop-h-init
 loop-h-init c = (omega arith, search rules, refl)
 
-pub overlay_onto-requires : goal.overlay_onto-requires
-overlay_onto-requires c = rw c.chunk_at-chunk.ensures (simp (length-take, length-drop) (omega arith))
+pub overlay_chunk-chunk-requires : goal.overlay_chunk-chunk-requires
+overlay_chunk-chunk-requires c = simp (length-take, length-drop) (omega arith)
 
 pub loop-h-preserved : goal.loop-h-preserved
 loop-h-preserved c =
@@ -23,7 +23,7 @@ loop-h-preserved c =
     let over = start.args.over.now in
     let long = length-overlay row over in
     let next = put_turn 16 (16 * at.h) (16 * (at.h + 1)) at.out (overlay row over) (omega arith) (omega arith) (long ∙ sym at.invariant.1) at.invariant.2
-    (overlay_chunk 16 (16 * at.h) row over (sym start.requires.1) c.chunk_at-chunk.ensures c.overlay_onto.ensures) c.store_chunk.ensures in
+    (overlay_chunk 16 (16 * at.h) row over (sym start.requires.1) c.chunk_at.ensures c.overlay_chunk-chunk.ensures) c.store_chunk.ensures in
     (omega arith, next.0 ∙ long, next.1)
 
 pub returns : goal.returns
