@@ -16,6 +16,3 @@ becomes rank blocks sets leaving entering first row old held i = of_rank rank (h
 abbrev pub invariant-loop-b : goal.invariant-loop-b
 invariant-loop-b l =
     (l.b ≤ l.blocks) × Took (length l.row) (up_to (becomes l.rank l.blocks l.sets l.leaving l.entering l.first l.row l.old l.held) l.b) l.initial.rows l.initial.counts l.rows l.counts
-
-abbrev pub decreases-loop-b : goal.decreases-loop-b
-decreases-loop-b l = l.blocks - l.b

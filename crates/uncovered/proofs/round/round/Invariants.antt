@@ -16,6 +16,3 @@ ranked blocks sets leaving entering first row old held i = of_rank (length row -
 abbrev pub invariant-loop-n : goal.invariant-loop-n
 invariant-loop-n l =
     (l.n ≤ length l.row + 1) × Took (length l.row) (up_to (ranked l.blocks l.sets l.leaving l.entering l.first l.row l.old l.held) l.n) l.initial.rows l.initial.counts l.rows l.counts
-
-abbrev pub decreases-loop-n : goal.decreases-loop-n
-decreases-loop-n l = length l.row + 1 - l.n

@@ -6,6 +6,3 @@ use Rattle.uncovered.proofs.rounds.copy_counts.Given as goal
 
 abbrev pub invariant-loop-b : goal.invariant-loop-b
 invariant-loop-b l = (l.b ≤ 24) × (length l.counts ≡ 24) × (take l.b l.counts ≡ take l.b l.from)
-
-abbrev pub decreases-loop-b : goal.decreases-loop-b
-decreases-loop-b l = 24 - l.b

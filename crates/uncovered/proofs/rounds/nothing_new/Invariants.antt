@@ -8,6 +8,3 @@ use Rattle.uncovered.proofs.rounds.nothing_new.Given as goal
 
 abbrev pub invariant-loop-b : goal.invariant-loop-b
 invariant-loop-b l = (l.b ≤ 24) × (none_new l.b (held_rows l.w l.old l.held) (held_rows l.w l.rows l.counts) ≡ true)
-
-abbrev pub decreases-loop-b : goal.decreases-loop-b
-decreases-loop-b l = 24 - l.b

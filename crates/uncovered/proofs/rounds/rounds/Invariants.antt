@@ -11,6 +11,3 @@ use Rattle.uncovered.proofs.rounds.rounds.Given as goal
 abbrev pub invariant-loop-k : goal.invariant-loop-k
 invariant-loop-k l =
     (l.k ≤ enough (length l.row)) × (length l.room ≡ kind_length (length l.row)) × (length l.next ≡ 24) × After (graph_of (length l.row) l.blocks l.sets l.leaving l.entering l.first l.row) l.k l.rows l.counts
-
-abbrev pub decreases-loop-k : goal.decreases-loop-k
-decreases-loop-k l = enough (length l.row) - l.k
