@@ -1,5 +1,5 @@
 -- `round::offer_on` meets its contract: after s turns all is offered to those of the first s blocks that are in the set. Assumes nothing.
-use Prim.Native.Nat.{◌-◌, ◌≤◌}
+use Prim.Native.Nat.{◌≤◌}
 use lib.ListN.{length}
 use Rattle.uncovered.specs.Offers.{up_to, offer_on, of_rank}
 use Rattle.uncovered.specs.Taken.{Took}

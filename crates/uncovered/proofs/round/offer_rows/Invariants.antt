@@ -1,6 +1,6 @@
 -- `round::offer_rows` meets its contract: after k turns all that the first k rows become is offered. Assumes nothing.
 use mathlib.Core.List.{List, []}
-use Prim.Native.Nat.{ℕ, ◌-◌, ◌≤◌}
+use Prim.Native.Nat.{ℕ, ◌≤◌}
 use lib.ListN.{length, get_or}
 use Rattle.model.specs.Computed.{State}
 use Rattle.rows.specs.Overlay.{overlay}

@@ -1,7 +1,7 @@
 -- `rounds::nothing_new` meets its contract: after b turns no row of the first b blocks is new. Assumes nothing.
 use mathlib.Core.Path.{◌≡◌}
 use mathlib.Core.Bool.{true}
-use Prim.Native.Nat.{◌-◌, ◌≤◌}
+use Prim.Native.Nat.{◌≤◌}
 use Rattle.gather.specs.Memory.{held_rows}
 use Rattle.uncovered.specs.Taken.{none_new}
 use Rattle.uncovered.proofs.rounds.nothing_new.Given as goal
