@@ -4,7 +4,7 @@ ghost use Rattle.rows.specs.Rows.{kind_length, area_length};
 ghost use Rattle.area.specs.Area.{block_parts};
 ghost use Rattle.area.specs.Kinds.{sorted_rows, Counts, Distinct, sorted_area};
 
-use sort::{fill_with, sort_rows};
+use sort::sort_rows;
 
 // The rows of each of 24 blocks are put in dictionary order; unfilled rows become rows of nothings.
 pub fn sort_blocks(rows: &mut [u16], counts: &[usize], w: usize)
@@ -12,6 +12,7 @@ pub fn sort_blocks(rows: &mut [u16], counts: &[usize], w: usize)
     ensures { rows.new ≡ block_parts w (sorted_rows w rows.old counts.now) 24 0 }
 {
     let part = 32 * w;
+    // By index: the block numbered b has a part of the rows and a count.
     for b in 0..24 {
         let at = part * b;
         sort_rows(&mut rows[at..at + part], counts[b], w);
@@ -23,6 +24,7 @@ fn write_kind(part: &mut [u16], counts: &[usize])
     requires { (length part.old ≡ 24) × Counts counts.now }
     ensures { part.new ≡ counts.now }
 {
+    // By index: both lists are at the same block.
     for b in 0..24 {
         part[b] = counts[b] as u16;
     }
@@ -35,7 +37,7 @@ pub fn write_counts(part: &mut [u16], reaching: &[usize], live: &[usize])
 {
     write_kind(&mut part[0..24], reaching);
     write_kind(&mut part[24..48], live);
-    fill_with(&mut part[48..256], 0);
+    part[48..256].fill(0);
 }
 
 // The rows of an area, both kinds in any order, are put in dictionary order, and the counts are written.

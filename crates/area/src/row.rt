@@ -3,8 +3,6 @@ ghost use Rattle.std.specs.Prelude.{◌≡◌, ◌+◌, ◌*◌, ◌<◌, ◌≤
 ghost use Rattle.rows.specs.Rows.{kind_length, area_length};
 ghost use Rattle.area.specs.RowPart.{kind_start, count_in, row_start, row_length, row_part};
 
-use cache::numbers::count;
-
 // Where a row stands in a work area, and how long it is.
 #[derive(Clone, Copy)]
 pub struct RowPlace {
@@ -25,9 +23,9 @@ fn count_in(area: &[u16], w: usize, live: bool, block: usize) -> usize
 {
     let counts = 2 * (24 * (32 * w));
     if live {
-        return count(area[counts + 24 + block]);
+        return usize::from(area[counts + 24 + block]);
     }
-    count(area[counts + block])
+    usize::from(area[counts + block])
 }
 
 // Where the rows of a kind begin.

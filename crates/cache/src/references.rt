@@ -7,7 +7,6 @@ ghost use Rattle.cache.specs.SoFar.{RowsSoFar, OneMore};
 ghost use Rattle.cache.specs.Shape.{shaped, Holds};
 
 use crate::blocks::{CacheShape, MemoryBlock};
-use crate::numbers::byte_number;
 use crate::row::Row;
 
 // The two-byte number at i, low byte first.
@@ -15,7 +14,7 @@ pub fn number_at(bytes: &[u8], i: usize) -> u16
     requires { i + 1 < length bytes.now }
     ensures { result ≡ number_at bytes.now i }
 {
-    byte_number(bytes[i]) + 256 * byte_number(bytes[i + 1])
+    u16::from_le_bytes([bytes[i], bytes[i + 1]])
 }
 
 // For each cache block the first and the last reference to it, of references made in order.

@@ -1,6 +1,5 @@
 pub mod NextBlock
 pub mod Append
-pub mod Clearing
 pub mod Handing
 pub mod Distinct
 pub mod Gathering

@@ -2,6 +2,7 @@
 use Rattle.std.specs.Prelude.{◌≡◌, Bool, false, List, ℕ, ◌*◌, ◌≤◌, ◌<◌, length, get_or}
 use Rattle.model.specs.Computed.{sorted}
 use Rattle.rows.specs.Rows.{Width, rows_of, part_of, kind_length}
+use Rattle.gather.specs.declared.gather.BlockGraph.{BlockGraph}
 use Rattle.gather.specs.Graph.{Graph, Listed, too_many}
 
 -- the graph of the code's numbers
@@ -19,6 +20,13 @@ pub record GatherInput (w blocks : ℕ) (sets leaving entering : List ℕ) (firs
   pub enters : length entering ≡ 24 * w
   pub long : length rows ≡ kind_length w
   pub many : length counts ≡ 24
+
+-- the graph that the code's graph means, in rows as wide as the one that it begins with; and what gathering along it takes
+abbrev pub graph_meant : BlockGraph → Graph
+graph_meant g = graph_of (length g.row.now) g.blocks g.sets.now g.leaving.now g.entering.now g.first g.row.now
+
+abbrev pub GraphInput : BlockGraph → List ℕ → List ℕ → Type 0
+GraphInput g rows counts = GatherInput (length g.row.now) g.blocks g.sets.now g.leaving.now g.entering.now g.first rows counts
 
 -- the number of rows of the block b, and the rows, in some order
 pub record GatheredRows (w : ℕ) (all : ℕ → List (List ℕ)) (rows counts : List ℕ) (b : ℕ) : Type 0 where

@@ -3,18 +3,28 @@ ghost use Rattle.std.specs.Prelude.{◌≡◌, [], ◌*◌, ◌<◌, ◌≤◌, 
 ghost use Rattle.rows.specs.Overlay.{overlay};
 ghost use Rattle.gather.specs.Graph.{row_at};
 ghost use Rattle.gather.specs.Memory.{Memory, held_rows, AppendedTo, NextIn, HandedOn, WaitingAt};
-ghost use Rattle.gather.specs.Gathered.{GatherInput, GatheredAs, graph_of};
+ghost use Rattle.gather.specs.Gathered.{GraphInput, GatheredAs, graph_meant};
 
 use rows::{Appended, append_row, overlay_row};
+
+// A graph of blocks: a row of a block is handed on to each block in its set, overlaid by the row of `leaving` at the block that it leaves and then by the
+// row of `entering` at the block that gets it; it begins with one row at one block.
+#[derive(Clone, Copy)]
+pub struct BlockGraph<'a> {
+    pub blocks: usize,
+    pub sets: &'a [u32],
+    pub leaving: &'a [u16],
+    pub entering: &'a [u16],
+    pub first: usize,
+    pub row: &'a [u16],
+}
 
 // No block has a row.
 pub fn clear(counts: &mut [usize])
     requires { length counts.old ≡ 24 }
     ensures { counts.new ≡ replicate 24 0 }
 {
-    for b in 0..24 {
-        counts[b] = 0;
-    }
+    counts.fill(0);
 }
 
 // The row is appended to the rows of block s; true where the block is full. What stands after the rows of a block is left open.
@@ -112,6 +122,7 @@ pub fn next_waiting(counts: &[usize], done: &[usize], last: usize) -> usize
     if done[last] < counts[last] {
         return last;
     }
+    // By index: both lists are read at the same block, and its number is the answer.
     for b in 0..24 {
         if done[b] < counts[b] {
             return b;
@@ -122,27 +133,28 @@ pub fn next_waiting(counts: &[usize], done: &[usize], last: usize) -> usize
 
 // The rows of each block and their counts; true where some block has more than 32 rows.
 // Left open are the order of a block's rows and what stands after them, and after true all rows and counts.
-pub fn gather(
-    blocks: usize,
-    sets: &[u32],
-    leaving: &[u16],
-    entering: &[u16],
-    first: usize,
-    row: &[u16],
-    rows: &mut [u16],
-    counts: &mut [usize],
-) -> bool
-    requires { GatherInput (length row.now) blocks sets.now leaving.now entering.now first rows.old counts.old }
-    ensures { GatheredAs (graph_of (length row.now) blocks sets.now leaving.now entering.now first row.now) rows.new counts.new result }
+pub fn gather(graph: BlockGraph, rows: &mut [u16], counts: &mut [usize]) -> bool
+    requires { GraphInput graph rows.old counts.old }
+    ensures { GatheredAs (graph_meant graph.entry) rows.new counts.new result }
 {
-    let w = row.len();
+    let w = graph.row.len();
     clear(counts);
-    append_to(first, row, rows, counts);
+    append_to(graph.first, graph.row, rows, counts);
     let mut done = [0usize; 24];
-    let mut b = first;
+    let mut b = graph.first;
     while b < 24 {
         let k = done[b];
-        if hand_row(w, b, k, sets[b], blocks, leaving, entering, rows, counts) {
+        if hand_row(
+            w,
+            b,
+            k,
+            graph.sets[b],
+            graph.blocks,
+            graph.leaving,
+            graph.entering,
+            rows,
+            counts,
+        ) {
             return true;
         }
         done[b] = k + 1;

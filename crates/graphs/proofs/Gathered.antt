@@ -17,6 +17,7 @@ use Rattle.body.specs.Decode.{decode, task_of}
 use Rattle.body.specs.Walk.{kept_of, blocks_of, starts_of}
 use Rattle.body.specs.Layout.{InBounds}
 use Rattle.body.specs.Jumps.{jump_sets}
+use Rattle.body.specs.Turned.{turned}
 use Rattle.body.proofs.JumpLaws.{walked_task}
 use Rattle.body.proofs.Decoded.{blocks-real}
 use Rattle.body.proofs.JumpLaws.{jumps-inside}
@@ -25,8 +26,9 @@ use Rattle.rows.specs.Rows.{Width, kind_length, area_length}
 use Rattle.rows.proofs.Parts.{replaced_length, replaced_here, replaced_before, lent_back}
 use Rattle.gather.specs.Graph.{Graph, Listed, row_at, too_many}
 use Rattle.gather.specs.Memory.{held_rows}
-use Rattle.gather.specs.Gathered.{GatherInput, GatheredRows, GatheredAs, graph_of}
-use Rattle.graphs.specs.Graphs.{first_rows, last_rows, no_rows, reach_graph, live_graph, reach_of, live_of}
+use Rattle.gather.specs.Gathered.{GatherInput, GatheredRows, GatheredAs, graph_of, graph_meant, GraphInput}
+use Rattle.gather.specs.declared.gather.BlockGraph.{BlockGraph}
+use Rattle.graphs.specs.Graphs.{first_rows, last_rows, no_rows, reach_graph, live_graph, reach_of, live_of, live_along}
 use Rattle.graphs.specs.TaskRows.{KindRows, TaskRows, AreaRows, BothGathered}
 use Rattle.graphs.proofs.Listed.{last-at, reach_listed, live_listed}
 use Rattle.graphs.proofs.Turning.{turned_predecessors}
@@ -53,11 +55,24 @@ kept-bounds body e = let f = walked_task body (blocks_of (decode body)) (starts_
 -- ---- the graphs
 
 -- equal widths, sets, rows and first rows make the same graph
-pub same_graph : {w w' blocks first : ℕ} {sets sets' leaving leaving' entering entering' row row' rows counts : List ℕ} {full : Bool}
+pub same_graph : {w w' blocks first : ℕ} {sets sets' leaving leaving' entering entering' row row' : List ℕ}
     → w ≡ w' → sets ≡ sets' → leaving ≡ leaving' → entering ≡ entering' → row ≡ row'
-    → GatheredAs (graph_of w blocks sets leaving entering first row) rows counts full → GatheredAs (graph_of w' blocks sets' leaving' entering' first row') rows counts full
-same_graph {blocks = blocks} {first = first} {rows = rows} {counts = counts} {full = full} ew es el ee er =
-    subst (λ g. GatheredAs g rows counts full) (λ i. record { width = ew i; blocks = blocks; sets = es i; leaving = el i; entering = ee i; first = first; row = er i })
+    → graph_of w blocks sets leaving entering first row ≡ graph_of w' blocks sets' leaving' entering' first row'
+same_graph {blocks = blocks} {first = first} ew es el ee er = λ i. record { width = ew i; blocks = blocks; sets = es i; leaving = el i; entering = ee i; first = first; row = er i }
+
+-- the code's graph, where it means g: what gathering along it takes, and what is said of it
+pub graph_asks : (graph : BlockGraph) {g : Graph} {rows counts : List ℕ} → graph_meant graph ≡ g
+    → GatherInput g.width g.blocks g.sets g.leaving g.entering g.first rows counts → GraphInput graph rows counts
+graph_asks graph {rows = rows} {counts = counts} e = subst (λ (m : Graph). GatherInput m.width m.blocks m.sets m.leaving m.entering m.first rows counts) (sym e)
+
+pub graph_told : (In : Graph → List ℕ → List ℕ → Bool → Type 0) (graph : BlockGraph) {g : Graph} {rows counts : List ℕ} {full : Bool} → graph_meant graph ≡ g
+    → In (graph_meant graph) rows counts full → In g rows counts full
+graph_told In graph {rows = rows} {counts = counts} {full = full} = subst (λ (m : Graph). In m rows counts full)
+
+-- the graph of live states, of the sets of predecessors turned round from those of successors
+pub live_turned : (w blocks : ℕ) (sets first : List ℕ) (graph : BlockGraph) {before : List ℕ} → before ≡ turned sets blocks
+    → graph_meant graph ≡ live_along w blocks before first → graph_meant graph ≡ live_of w blocks sets first
+live_turned w blocks sets first graph e h = h ∙ ap (λ (s : List ℕ). live_along w blocks s first) e
 
 -- what gathering takes
 module _ (w blocks : ℕ) {sets rows counts : List ℕ} (width : Width w) (some : 0 < blocks) (few : blocks ≤ 24) (each : length sets ≡ 24)

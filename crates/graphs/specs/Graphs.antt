@@ -64,6 +64,10 @@ live_graph k t = record {
 abbrev pub reach_of : ℕ → ℕ → List ℕ → List ℕ → Graph
 reach_of w blocks sets last = graph_of w blocks sets (no_rows w) last 0 (row_at w last 0)
 
--- the graph of live states, of the same sets and the first references
+-- the graph of live states, of the sets of predecessors and the first references
+abbrev pub live_along : ℕ → ℕ → List ℕ → List ℕ → Graph
+live_along w blocks before first = graph_of w blocks before first (no_rows w) (blocks - 1) (replicate w nothing)
+
+-- the same, of the sets of successors
 abbrev pub live_of : ℕ → ℕ → List ℕ → List ℕ → Graph
-live_of w blocks sets first = graph_of w blocks (turned sets blocks) first (no_rows w) (blocks - 1) (replicate w nothing)
+live_of w blocks sets first = live_along w blocks (turned sets blocks) first

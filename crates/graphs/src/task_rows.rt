@@ -1,13 +1,13 @@
 // The reaching and live states of a body, gathered in memory.
-ghost use Rattle.std.specs.Prelude.{◌≡◌, true, ◌*◌, ◌-◌, ◌≤◌, ◌<◌, length};
+ghost use Rattle.std.specs.Prelude.{◌≡◌, true, ◌*◌, ◌≤◌, ◌<◌, length};
 ghost use Rattle.cache.specs.Shape.{shaped, Holds};
 ghost use Rattle.model.specs.Computed.{reaching};
 ghost use Rattle.body.specs.Decode.{decode, task_of};
 ghost use Rattle.body.specs.Walk.{kept_of};
 ghost use Rattle.body.specs.Jumps.{jump_sets};
 ghost use Rattle.rows.specs.Rows.{Width, kind_length, area_length};
-ghost use Rattle.gather.specs.Gathered.{GatherInput, GatheredAs};
-ghost use Rattle.graphs.specs.Graphs.{first_rows, last_rows, no_rows, reach_of, live_of};
+ghost use Rattle.gather.specs.Gathered.{graph_meant};
+ghost use Rattle.graphs.specs.Graphs.{first_rows, last_rows, no_rows, reach_of, live_of, live_along};
 ghost use Rattle.graphs.specs.TaskRows.{KindRows, AreaRows, BothGathered};
 
 use crate::prepare::prepare;
@@ -16,62 +16,53 @@ use body::predecessors::predecessors;
 use body::walk;
 use cache::blocks::CacheShape;
 use cache::row::Row;
-use gather::gather::gather;
+use gather::gather::{BlockGraph, gather};
 
 // No reference of any block, in rows of up to 32 numbers.
 pub const NO_ROWS: [u16; 768] = [Row::NOTHING; 768];
 
-// The rows that blocks hand on to their successors, each overlaid by the last references of the block that gets it. Left open is what
-// `gather` leaves open.
-fn gather_reaching(
+// The graph of reaching states: blocks hand on to their successors, and the last references of the block that gets a row are laid over it. `none` has no
+// reference of any block.
+pub fn reaching_graph<'a>(
     blocks: usize,
-    sets: [u32; 24],
+    sets: &'a [u32],
     w: usize,
-    last: &[u16],
-    rows: &mut [u16],
-    counts: &mut [usize],
-) -> bool
-    requires { GatherInput w blocks sets (no_rows w) last.now 0 rows.old counts.old }
-    ensures { GatheredAs (reach_of w blocks sets last.now) rows.new counts.new result }
+    none: &'a [u16],
+    last: &'a [u16],
+) -> BlockGraph<'a>
+    requires { (w ≤ length last.now) × (none.now ≡ no_rows w) }
+    ensures { graph_meant result ≡ reach_of w blocks sets.now last.now }
 {
-    let room = 24 * w;
-    gather(
+    BlockGraph {
         blocks,
-        &sets,
-        &NO_ROWS[0..room],
-        last,
-        0,
-        &last[0..w],
-        rows,
-        counts,
-    )
+        sets,
+        leaving: none,
+        entering: last,
+        first: 0,
+        row: &last[0..w],
+    }
 }
 
-// The rows that blocks hand on to their predecessors, each overlaid by the first references of the block that it leaves. Left open is
-// what `gather` leaves open.
-fn gather_live(
+// The graph of live states: blocks hand on to their predecessors, and the first references of the block that a row leaves are laid over it. `none` has no
+// reference of any block.
+pub fn live_graph<'a>(
     blocks: usize,
-    sets: [u32; 24],
+    before: &'a [u32],
     w: usize,
-    first: &[u16],
-    rows: &mut [u16],
-    counts: &mut [usize],
-) -> bool
-    requires { GatherInput w blocks sets first.now (no_rows w) (blocks - 1) rows.old counts.old }
-    ensures { GatheredAs (live_of w blocks sets first.now) rows.new counts.new result }
+    none: &'a [u16],
+    first: &'a [u16],
+) -> BlockGraph<'a>
+    requires { (0 < blocks) × (none.now ≡ no_rows w) }
+    ensures { graph_meant result ≡ live_along w blocks before.now first.now }
 {
-    let before = predecessors(sets, blocks);
-    let room = 24 * w;
-    gather(
+    BlockGraph {
         blocks,
-        &before,
-        first,
-        &NO_ROWS[0..room],
-        blocks - 1,
-        &NO_ROWS[0..w],
-        rows,
-        counts,
-    )
+        sets: before,
+        leaving: first,
+        entering: none,
+        first: blocks - 1,
+        row: &none[0..w],
+    }
 }
 
 // The rows of both kinds in a work area, those of reaching states first. Left open is what `gather` leaves open, the area from the counts on,
@@ -92,10 +83,14 @@ fn gather_both(
         area.new reached.new lived.new result }
 {
     let kind = 24 * (32 * w);
-    if gather_reaching(blocks, sets, w, last, &mut area[0..kind], reached) {
+    let none = &NO_ROWS[0..24 * w];
+    let reaching = reaching_graph(blocks, &sets, w, none, last);
+    if gather(reaching, &mut area[0..kind], reached) {
         return true;
     }
-    gather_live(blocks, sets, w, first, &mut area[kind..kind + kind], lived)
+    let before = predecessors(sets, blocks);
+    let live = live_graph(blocks, &before, w, none, first);
+    gather(live, &mut area[kind..kind + kind], lived)
 }
 
 // The blocks of a body, and for each the set of its successors.
@@ -142,8 +137,9 @@ pub fn reaching_rows(
     let mut first = NO_ROWS;
     let mut last = NO_ROWS;
     let found = graphs(body, shape, w, &mut first[0..room], &mut last[0..room]);
-    let sets = found.sets;
-    gather_reaching(found.blocks, sets, w, &last[0..room], rows, counts)
+    let none = &NO_ROWS[0..room];
+    let graph = reaching_graph(found.blocks, &found.sets, w, none, &last[0..room]);
+    gather(graph, rows, counts)
 }
 
 // The reaching and the live states of each block of a body, in a work area; true where some block has more than 32 of either. Left open are the

@@ -30,10 +30,9 @@ fn rests_in(references: &[u8], shape: CacheShape, rest: &mut [u16], rests: &mut 
     ensures { (rest.new ≡ rest_of (shaped (length rest.old) shape) (numbers references.now) 0)
         × Rests (shaped (length rest.old) shape) (numbers references.now) rests.new }
 {
-    let mut d = references.len() / 2;
-    keep_rest(rest, d, rests);
-    while 0 < d {
-        d -= 1;
+    let all = references.len() / 2;
+    keep_rest(rest, all, rests);
+    for d in (0..all).rev() {
         refer_row(references, d, shape, rest);
         keep_rest(rest, d, rests);
     }
@@ -57,6 +56,7 @@ pub fn left_rows(rest: &[u16], live: &[u16], lived: usize, out: &mut [u16])
         ≡ left_rows rest.now (rows_of (length rest.now) lived live.now)) }
 {
     let w = rest.len();
+    // By index: a live row and the row made of it have the same number.
     for k in 0..lived {
         let at = w * k;
         overlay_row(&live[at..at + w], rest, &mut out[at..at + w]);

@@ -19,6 +19,7 @@ pub fn replaced_sets(row: &[u16], ends: &[u16], count: usize, sets: &mut [u32]) 
 {
     let w = row.len();
     let mut all: u32 = 0;
+    // By index: the end row numbered k has the set numbered k.
     for k in 0..count {
         let at = w * k;
         let set = replaced(&ends[at..at + w], row);
@@ -44,6 +45,7 @@ fn overlay_onto(over: &[u16], row: &mut [u16])
     requires { length over.now ≡ length row.old }
     ensures { row.new ≡ overlay row.old over.now }
 {
+    // By index: both rows are at the same place. `rows::overlay_row` writes to another row, for which this one would be copied.
     for c in 0..over.len() {
         let m = over[c];
         let kept = row[c];

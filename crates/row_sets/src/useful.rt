@@ -24,6 +24,7 @@ fn mark_lane(lane: &[u16], lived: usize, x: u16, m: u16, bit: u32, sets: &mut [u
     ensures { (length sets.new ≡ 32)
         × ((l : ℕ) → l < lived → get_or sets.new l 0 ≡ bit_or (get_or sets.old l 0) (marked_bit x m bit (get_or lane.now l 0))) }
 {
+    // By index: the lane and the sets are at the same place.
     for l in 0..lived {
         let held = if x == Row::NOTHING { lane[l] } else { x };
         sets[l] |= if held == m { bit } else { 0 };
@@ -38,6 +39,7 @@ pub fn useful_sets(row: &[u16], rest: &[u16], lanes: &[u16], lived: usize, sets:
     ensures { (length sets.new ≡ 32) × ((l : ℕ) → l < lived
         → get_or sets.new l 0 ≡ useful_set row.now (overlay (lane_row (length row.now) lanes.now l) rest.now)) }
 {
+    // By index: the row, the rest and the lanes are at the same cache block.
     for c in 0..row.len() {
         let m = row[c];
         if m != Row::NOTHING {

@@ -1,56 +1,31 @@
--- Rows sixteen numbers at a time: a comparison, a copy and an overlay go on from one chunk to the next, for rows of every length.
--- Each law splits two rows at the same place.
+-- Rows sixteen numbers at a time: an overlay goes on from one chunk to the next, for rows of every length; and chunks compared whole.
+-- Each law of an overlay splits two rows at the same place.
 use mathlib.Core.Path.{◌≡◌, refl, sym, ap, ap₂, ◌∙◌}
-use mathlib.Core.Bool.{Bool, true, false, not, cond, ◌&&◌}
+use mathlib.Core.Bool.{Bool, cond, ◌&&◌}
 use mathlib.Core.List.{List, [], ◌∷◌, ◌++◌}
 use Prim.Native.Nat.{ℕ, zero, suc, ◌+◌, ◌-◌, ◌≤◌}
 use native.Mathlib.Omega.{arith}
 use lib.Dec.{eqb}
+use lib.Pointwise.{pointwise}
 use lib.ListN.{length, take, drop, length-drop}
-use lib.Seq.{take-add, take_at, drop_at, drop-drop, take_all, length-take-le}
+use lib.Seq.{take-add, take_at, drop_at, take_all, length-take-le}
 use Rattle.cache.specs.References.{nothing}
 use Rattle.model.specs.Computed.{same_list}
 use Rattle.rows.specs.Overlay.{overlay}
 use Rattle.rows.specs.Append.{put}
 use Rattle.rows.proofs.Parts.{length-put}
 
-and_assoc : (a b c : Bool) → (a && (b && c)) ≡ ((a && b) && c)
-and_assoc true b c = refl
-and_assoc false b c = refl
-
--- a test that the code turned round
-pub was_false : (s : Bool) → not s ≡ true → s ≡ false
-was_false true e = sym e
-was_false false e = refl
-
-pub was_true : (s : Bool) → not s ≡ false → s ≡ true
-was_true true e = refl
-was_true false e = sym e
-
 -- ---- comparison
 
-same_split : (n : ℕ) (a b : List ℕ) → length a ≡ length b → same_list a b ≡ (same_list (take n a) (take n b) && same_list (drop n a) (drop n b))
-same_split zero a b e = refl
-same_split (suc n) [] [] e = refl
-same_split (suc n) [] (y ∷ b) e = absurd (omega arith)
-same_split (suc n) (x ∷ a) [] e = absurd (omega arith)
-same_split (suc n) (x ∷ a) (y ∷ b) e =
-    ap (λ (t : Bool). eqb x y && t) (same_split n a b (omega arith)) ∙ and_assoc (eqb x y) (same_list (take n a) (take n b)) (same_list (drop n a) (drop n b))
+same-pointwise : (a b : List ℕ) → pointwise eqb a b ≡ same_list a b
+same-pointwise [] [] = refl
+same-pointwise [] (y ∷ b) = refl
+same-pointwise (x ∷ a) [] = refl
+same-pointwise (x ∷ a) (y ∷ b) = ap (λ (t : Bool). eqb x y && t) (same-pointwise a b)
 
-drop_same : (i : ℕ) (a b : List ℕ) → length a ≡ length b → length (drop i a) ≡ length (drop i b)
-drop_same zero a b e = e
-drop_same (suc i) [] [] e = refl
-drop_same (suc i) [] (y ∷ b) e = absurd (omega arith)
-drop_same (suc i) (x ∷ a) [] e = absurd (omega arith)
-drop_same (suc i) (x ∷ a) (y ∷ b) e = drop_same i a b (omega arith)
-
--- a turn: s tells whether the chunks from i on, which the code read and lent, are the same
-pub same_turn : (n i j : ℕ) (a b : List ℕ) {chunk : List ℕ} {s : Bool} → j ≡ i + n → length a ≡ length b → chunk ≡ take n (drop i a)
-    → s ≡ same_list chunk (take (i + n - i) (drop i b)) → same_list (drop i a) (drop i b) ≡ (s && same_list (drop j a) (drop j b))
-same_turn n i j a b f e q h =
-    let m : i + n - i ≡ n = omega arith in
-    same_split n (drop i a) (drop i b) (drop_same i a b e)
-    ∙ ap₂ (λ (x y : Bool). x && y) (sym (h ∙ ap₂ (λ (x : List ℕ) (z : ℕ). same_list x (take z (drop i b))) q m)) (rw (f, drop-drop n i a, drop-drop n i b))
+-- `==` of two chunks
+pub same_chunks : {a b : List ℕ} {s : Bool} (c d : List ℕ) → s ≡ pointwise eqb a b → a ≡ c → b ≡ d → s ≡ same_list c d
+same_chunks {a} {b} c d e q r = e ∙ same-pointwise a b ∙ ap₂ same_list q r
 
 -- ---- copies
 

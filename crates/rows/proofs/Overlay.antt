@@ -1,18 +1,17 @@
--- The turns of the loop that overlays a row, and of the loop that compares two rows, are steps of their definitions.
--- What `over` holds below c, laid over the row, is the row after c turns; what is left of two rows from i on is the same as the whole is.
+-- The turns of the loop that overlays a row are steps of its definition.
+-- What `over` holds below c, laid over the row, is the row after c turns.
 use mathlib.Core.Path.{◌≡◌, refl, sym, ap, ◌∙◌}
 use mathlib.Core.Logic.{◌≢◌}
-use mathlib.Core.Bool.{true, false, ◌&&◌, cond}
+use mathlib.Core.Bool.{cond}
 use mathlib.Core.List.{List, [], ◌∷◌}
 use Prim.Native.Nat.{ℕ, zero, suc, ◌+◌, ◌≤◌, ◌<◌}
 use native.Mathlib.Numerals.{add-one}
 use native.Mathlib.Omega.{arith}
 use lib.Dec.{eqb}
-use lib.ListN.{length, get_or, take, drop, set, drop_of_length-le}
-use lib.Seq.{drop-cons, take_all}
+use lib.ListN.{length, get_or, take, set}
+use lib.Seq.{take_all}
 use borrow.Author.Tests.{eq-eqb, ne_eqb}
 use Rattle.cache.specs.References.{nothing}
-use Rattle.model.specs.Computed.{same_list}
 use Rattle.rows.specs.Overlay.{overlay}
 
 pub overlay-none : (row : List ℕ) → overlay row [] ≡ row
@@ -46,18 +45,3 @@ module _ (row over : List ℕ) (c : ℕ) (inside : c < length over) where
 
 pub overlay-all : (row over : List ℕ) (c : ℕ) {held : List ℕ} → length over ≤ c → held ≡ overlay row (take c over) → held ≡ overlay row over
 overlay-all row over c h e = e ∙ ap (overlay row) (take_all c over h)
-
--- ---- the loop that compares
-
-module _ (a b : List ℕ) (i : ℕ) (ha : i < length a) (hb : i < length b) where
-  same_next : same_list (drop i a) (drop i b) ≡ (eqb (get_or a i 0) (get_or b i 0) && same_list (drop (i + 1) a) (drop (i + 1) b))
-  same_next = rw (add-one i, drop-cons a i 0 ha, drop-cons b i 0 hb)
-
-  pub same_differ : (get_or a i 0 ≡ get_or b i 0 → ⊥) → same_list (drop i a) (drop i b) ≡ false
-  same_differ h = same_next ∙ rw (ne_eqb (get_or a i 0) (get_or b i 0) h)
-
-  pub same_agree : get_or a i 0 ≡ get_or b i 0 → same_list (drop i a) (drop i b) ≡ same_list (drop (i + 1) a) (drop (i + 1) b)
-  same_agree h = same_next ∙ rw (eq-eqb (get_or a i 0) (get_or b i 0) h)
-
-pub same_end : (a b : List ℕ) (i : ℕ) → length a ≤ i → length b ≤ i → same_list (drop i a) (drop i b) ≡ true
-same_end a b i ha hb = rw (drop_of_length-le a ha, drop_of_length-le b hb)

@@ -43,14 +43,11 @@ rows_next w n k l h =
 pub search_start : (w n : ℕ) (l row : List ℕ) → mem same_list row (rows_of w (n - 0) (drop (w * 0) l)) ≡ mem same_list row (rows_of w n l)
 search_start w n l row = rw (sub-zero n, mul-zero w)
 
--- a turn: b tells whether the row is the one numbered k, which was lent as a part from w k to w k + w
-pub search_turn : (w n k : ℕ) (l row : List ℕ) {b : Bool} → k < n → b ≡ same_list row (take (w * k + w - w * k) (drop (w * k) l))
+-- a turn: b tells whether the row is the one numbered k
+pub search_at : (w n k : ℕ) (l row : List ℕ) {b : Bool} → k < n → b ≡ same_list row (take w (drop (w * k) l))
     → mem same_list row (rows_of w (n - k) (drop (w * k) l)) ≡ (b || mem same_list row (rows_of w (n - (k + 1)) (drop (w * (k + 1)) l)))
-search_turn w n k l row h e =
-    let s : w * k + w - w * k ≡ w = omega arith in
-    ap (mem same_list row) (rows_next w n k l h)
-    ∙ ap (λ (t : Bool). t || mem same_list row (rows_of w (n - (k + 1)) (drop (w * (k + 1)) l)))
-    (sym (e ∙ ap (λ (m : ℕ). same_list row (take m (drop (w * k) l))) s))
+search_at w n k l row h e =
+    ap (mem same_list row) (rows_next w n k l h) ∙ ap (λ (t : Bool). t || mem same_list row (rows_of w (n - (k + 1)) (drop (w * (k + 1)) l))) (sym e)
 
 pub search_end : (w n k : ℕ) (l row : List ℕ) → n ≤ k → mem same_list row (rows_of w (n - k) l) ≡ false
 search_end w n k l row h = let e : n - k ≡ 0 = omega arith in rw e
@@ -203,7 +200,7 @@ part_of_part n (suc a) zero l h = absurd (omega arith)
 part_of_part n (suc a) (suc m) [] h = refl
 part_of_part n (suc a) (suc m) (x ∷ l) h = part_of_part n a m l (omega arith)
 
--- a row of one chunk, looked for by the chunk
-pub one_chunk : (count : ℕ) (part row : List ℕ) {chunk : List ℕ} {found : Bool} → length row ≡ 16 → chunk ≡ take 16 (drop 0 row)
-    → found ≡ mem same_list chunk (rows_of 16 count part) → found ≡ mem same_list row (rows_of (length row) count part)
-one_chunk count part row e q r = r ∙ ap₂ (λ (x : List ℕ) (w : ℕ). mem same_list x (rows_of w count part)) (q ∙ take_all 16 row (omega arith)) (sym e)
+-- a row of n numbers, looked for as these numbers
+pub whole_row : (n count : ℕ) (part row : List ℕ) {chunk : List ℕ} {found : Bool} → length row ≡ n → chunk ≡ take n (drop 0 row)
+    → found ≡ mem same_list chunk (rows_of n count part) → found ≡ mem same_list row (rows_of (length row) count part)
+whole_row n count part row e q r = r ∙ ap₂ (λ (x : List ℕ) (w : ℕ). mem same_list x (rows_of w count part)) (q ∙ take_all n row (omega arith)) (sym e)

@@ -15,6 +15,7 @@ fn overlay_chunk(row: [u16; 16], over: &[u16]) -> [u16; 16]
     requires { length over.now ≡ 16 }
     ensures { result ≡ overlay row over.now }
 {
+    // By index: two lists are read at the same place. An array by value, with each number chosen, stays in registers and needs no jump.
     let mut held = row;
     for c in 0..16 {
         let m = over[c];
@@ -24,30 +25,17 @@ fn overlay_chunk(row: [u16; 16], over: &[u16]) -> [u16; 16]
     held
 }
 
-// The sixteen numbers from `at` on.
-pub fn chunk_at(part: &[u16], at: usize) -> [u16; 16]
-    requires { at + 16 ≤ length part.now }
-    ensures { result ≡ take 16 (drop at part.now) }
+// The N numbers from `at` on.
+pub fn chunk_at<const N: usize>(part: &[u16], at: usize) -> [u16; N]
+    requires { at + N ≤ length part.now }
+    ensures { result ≡ take N (drop at part.now) }
 {
-    let mut row = [0u16; 16];
-    for i in 0..16 {
+    // By index: the compiled code of copy_from_slice tests whether the two overlap, and goes through memory.
+    let mut row = [0u16; N];
+    for i in 0..N {
         row[i] = part[at + i];
     }
     row
-}
-
-// Whether the sixteen numbers are the same.
-fn same_chunk(row: [u16; 16], other: &[u16]) -> bool
-    requires { length other.now ≡ 16 }
-    ensures { result ≡ same_list row other.now }
-{
-    let mut same = true;
-    for i in 0..16 {
-        if row[i] != other[i] {
-            same = false;
-        }
-    }
-    same
 }
 
 // Sixteen numbers are stored from `at` on.
@@ -55,6 +43,7 @@ pub fn store_chunk(part: &mut [u16], at: usize, row: [u16; 16])
     requires { at + 16 ≤ length part.old }
     ensures { part.new ≡ put part.old at row }
 {
+    // By index, as in `chunk_at`.
     for i in 0..16 {
         part[at + i] = row[i];
     }
@@ -72,60 +61,38 @@ pub fn overlay_row(row: &[u16], over: &[u16], out: &mut [u16])
     }
 }
 
-// Whether the rows are the same.
-pub fn same_row(row: &[u16], other: &[u16]) -> bool
-    requires { (length row.now % 16 ≡ 0) × (length other.now ≡ length row.now) }
-    ensures { result ≡ same_list row.now other.now }
-{
-    for h in 0..row.len() / 16 {
-        let at = 16 * h;
-        if !same_chunk(chunk_at(row, at), &other[at..at + 16]) {
-            return false;
-        }
-    }
-    true
-}
-
 // `out` becomes the row.
 pub fn copy_row(row: &[u16], out: &mut [u16])
     requires { (length row.now % 16 ≡ 0) × (length out.old ≡ length row.now) }
     ensures { out.new ≡ row.now }
 {
-    for h in 0..row.len() / 16 {
-        let at = 16 * h;
-        store_chunk(out, at, chunk_at(row, at));
-    }
+    out.copy_from_slice(row);
 }
 
-// Whether the sixteen numbers are among the first `count` rows of sixteen numbers.
-fn holds_chunk(part: &[u16], count: usize, row: [u16; 16]) -> bool
-    requires { (count ≤ 32) × (length part.now ≡ 32 * 16) }
-    ensures { result ≡ mem same_list row (rows_of 16 count part.now) }
+// Whether the N numbers are among the first `count` rows of N numbers.
+fn holds<const N: usize>(part: &[u16], count: usize, row: [u16; N]) -> bool
+    requires { (count ≤ 32) × (N ≤ 32) × (length part.now ≡ 32 * N) }
+    ensures { result ≡ mem same_list row.entry (rows_of N count part.now) }
 {
     for k in 0..count {
-        if same_chunk(row, &part[16 * k..16 * k + 16]) {
+        if row == chunk_at(part, N * k) {
             return true;
         }
     }
     false
 }
 
-// Whether the row is among the first `count` rows of the part. A row of one chunk stays in registers.
+// Whether the row is among the first `count` rows of the part. A row of known width stays in registers.
 pub fn holds_row(part: &[u16], count: usize, row: &[u16]) -> bool
     requires { (count ≤ 32) × (length row.now % 16 ≡ 0) × (length row.now ≤ 32) × (length part.now ≡ 32 * length row.now) }
     ensures { result ≡ mem same_list row.now (rows_of (length row.now) count part.now) }
 {
-    let w = row.len();
-    if w == 16 {
-        return holds_chunk(part, count, chunk_at(row, 0));
+    match row.len() {
+        16 => holds(part, count, chunk_at::<16>(row, 0)),
+        32 => holds(part, count, chunk_at::<32>(row, 0)),
+        // Rows of no number are all the same.
+        _ => 0 < count,
     }
-    for k in 0..count {
-        let at = w * k;
-        if same_row(row, &part[at..at + w]) {
-            return true;
-        }
-    }
-    false
 }
 
 // What became of a row that was to be one of a block's rows.

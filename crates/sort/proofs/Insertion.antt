@@ -7,14 +7,15 @@ use Prim.Native.Nat.{ℕ, zero, suc, ◌+◌, ◌-◌, ◌*◌, ◌%◌, ◌≤�
 use native.Mathlib.Nat.{sub-zero, mul-zero, mul-sub}
 use native.Mathlib.Omega.{arith}
 use lib.ListN.{length, take, drop, length-append, length-drop, drop_of_length-le, take-append-drop}
-use lib.Seq.{take_at, drop_at, drop-drop, take-add, length-take-le}
+use Rattle.std.specs.List.{copy_within}
+use lib.Seq.{take_at, drop_at, drop-drop, length-take-le}
 use borrow.Rule.Slice.PartMut.{put_mid}
 use Rattle.model.specs.Order.{before}
 use Rattle.model.specs.Computed.{insert_row}
 use Rattle.rows.specs.Rows.{rows_of, flat}
 use Rattle.rows.specs.Append.{put}
 use Rattle.sort.specs.Sorting.{inserted_first}
-use Rattle.rows.proofs.Parts.{rows-length, rows_next, next_row, after_first, row_within, length-put}
+use Rattle.rows.proofs.Parts.{rows-length, rows_next, next_row, after_first, row_within}
 
 -- ---- insertion of a row that is not there
 
@@ -66,30 +67,14 @@ module _ (l : List ℕ) (at : ℕ) (row : List ℕ) (stop : ℕ) (e : stop ≡ a
       let s : a ≡ stop + (a - stop) = omega arith in
       rw (s, ← drop-drop (a - stop) stop (put l at row), ← drop-drop (a - stop) stop l, put-drop)
 
--- ---- a row that moves to the place before it, n numbers at a time
+-- ---- a row that moves to the place before it
 
--- what the rows are once the first i numbers have moved
-abbrev pub moved_to : ℕ → ℕ → ℕ → List ℕ → List ℕ
-moved_to w at i l = put l at (take i (drop (at + w) l))
-
-pub move_start : (w at : ℕ) (l : List ℕ) → l ≡ moved_to w at 0 l
-move_start w at l = let none : at + 0 ≡ at = omega arith in sym (rw none (take-append-drop at l))
-
-module _ (w at i : ℕ) (l : List ℕ) (fits : at + w + w ≤ length l) (few : i ≤ w) where
-  moved_long : length (take i (drop (at + w) l)) ≡ i
-  moved_long = length-take-le i (drop (at + w) l) (simp length-drop (omega arith))
-
-  pub moved_length : length (moved_to w at i l) ≡ length l
-  moved_length = length-put l at (take i (drop (at + w) l)) (omega (arith, moved_long))
-
-  pub move_turn : (n j : ℕ) → j ≡ i + n → {rows chunk : List ℕ} → rows ≡ moved_to w at i l → chunk ≡ take n (drop (at + i + w) rows)
-      → put rows (at + i) chunk ≡ moved_to w at j l
-  move_turn n j f e q =
-      let kept = put-later l at (take i (drop (at + w) l)) (at + i) (rw moved_long) (omega arith) n (at + i + w) (omega arith) in
-      let more = put_more l at (take i (drop (at + w) l)) (at + i) (rw moved_long) (omega arith) in
-      let next : at + i + w ≡ at + w + i = omega arith in
-      let part : take i (drop (at + w) l) ++ take n (drop (at + i + w) l) ≡ take j (drop (at + w) l) = rw (f, take-add i n (drop (at + w) l), drop-drop i (at + w) l, next) in
-      rw (q, e, kept, more (take n (drop (at + i + w) l)), part)
+pub moved_row : (w at : ℕ) (l : List ℕ) {now : List ℕ} → at + w + w ≤ length l → now ≡ copy_within l (at + w) (at + w + w) at
+    → now ≡ put l at (take w (drop (at + w) l))
+moved_row w at l h e =
+    let n : at + w + w - (at + w) ≡ w = omega arith in
+    let long : length (take w (drop (at + w) l)) ≡ w = length-take-le w (drop (at + w) l) (simp length-drop (omega arith)) in
+    e ∙ rw (n, long) (append_assoc (take at l) (take w (drop (at + w) l)) (drop (at + w) l))
 
 -- ---- the loop, over `count` rows with the place k free
 

@@ -1,3 +1,2 @@
-pub mod Order
 pub mod Insertion
 pub mod Sorted

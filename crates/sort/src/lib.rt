@@ -9,24 +9,14 @@ ghost use Rattle.rows.specs.Append.{put};
 ghost use Rattle.sort.specs.Sorting.{inserted_first, block_part};
 
 use cache::row::Row;
-use rows::{chunk_at, copy_row, store_chunk};
+use rows::copy_row;
 
 // Whether a row stands before another in dictionary order.
 pub fn stands_before(row: &[u16], other: &[u16]) -> bool
     requires { length other.now ≡ length row.now }
     ensures { result ≡ before row.now other.now }
 {
-    for i in 0..row.len() {
-        let x = row[i];
-        let y = other[i];
-        if x < y {
-            return true;
-        }
-        if y < x {
-            return false;
-        }
-    }
-    false
+    row < other
 }
 
 // The row after the one at `at` is copied over that one.
@@ -34,11 +24,7 @@ fn move_row(rows: &mut [u16], at: usize, w: usize)
     requires { (w % 16 ≡ 0) × (at + w + w ≤ length rows.old) }
     ensures { rows.new ≡ put rows.old at (take w (drop (at + w) rows.old)) }
 {
-    for h in 0..w / 16 {
-        let to = at + 16 * h;
-        let chunk = chunk_at(rows, to + w);
-        store_chunk(rows, to, chunk);
-    }
+    rows.copy_within(at + w..at + w + w, at);
 }
 
 // The row takes the place of the first row and is put in order among the others, which rise; each row that stands before it moves one
@@ -49,6 +35,7 @@ fn insert_row(rows: &mut [u16], others: usize, row: &[u16])
     ensures { rows.new ≡ flat (insert_row row.now (rows_of (length row.now) others (drop (length row.now) rows.old))) }
 {
     let w = row.len();
+    // By index: a row and the one after it are read and written.
     for k in 0..others {
         let at = w * k;
         let next = at + w;
@@ -76,9 +63,7 @@ fn insert_first(rows: &mut [u16], others: usize, w: usize)
 pub fn fill_with(part: &mut [u16], value: u16)
     ensures { part.new ≡ replicate (length part.old) value }
 {
-    for i in 0..part.len() {
-        part[i] = value;
-    }
+    part.fill(value);
 }
 
 // The first `count` rows of w numbers, none of them twice, are put in dictionary order; the others become rows of nothings.
@@ -91,5 +76,5 @@ pub fn sort_rows(part: &mut [u16], count: usize, w: usize)
         let at = w * (count - 1 - others);
         insert_first(&mut part[at..end], others, w);
     }
-    fill_with(&mut part[end..32 * w], Row::NOTHING);
+    part[end..32 * w].fill(Row::NOTHING);
 }

@@ -15,7 +15,6 @@ use Rattle.body.specs.Layout.{InBounds}
 use Rattle.body.specs.Jumps.{jump_sets}
 use Rattle.rows.specs.Rows.{kind_length, area_length}
 use Rattle.gather.specs.Graph.{Graph, too_many}
-use Rattle.gather.specs.Gathered.{graph_of}
 use Rattle.gather.proofs.Gathering.{many-before}
 use Rattle.graphs.specs.Graphs.{first_rows, last_rows, reach_graph, live_graph, reach_of, live_of}
 use Rattle.graphs.proofs.Gathered.{half_long, whole_long, whole-first, whole_second, reach_same, live_same}
@@ -28,13 +27,6 @@ few_rows all none b h = go (ltb 32 (length (all b))) refl
     go : (t : Bool) → ltb 32 (length (all b)) ≡ t → length (all b) ≤ 32
     go true q = absurd (true≢false (sym (many-before all b 24 h (ltb-true 32 (length (all b)) q)) ∙ none))
     go false q = ltb-false 32 (length (all b)) q
-
--- equal widths, sets, rows and first rows make the same graph, and what `In` says of the one it says of the other
-pub same_graph : (In : Graph → List ℕ → List ℕ → Bool → Type 0) {w w' blocks first : ℕ} {sets sets' leaving leaving' entering entering' row row' rows counts : List ℕ}
-    {full : Bool} → w ≡ w' → sets ≡ sets' → leaving ≡ leaving' → entering ≡ entering' → row ≡ row'
-    → In (graph_of w blocks sets leaving entering first row) rows counts full → In (graph_of w' blocks sets' leaving' entering' first row') rows counts full
-same_graph In {blocks = blocks} {first = first} {rows = rows} {counts = counts} {full = full} ew es el ee er =
-    subst (λ g. In g rows counts full) (λ i. record { width = ew i; blocks = blocks; sets = es i; leaving = el i; entering = ee i; first = first; row = er i })
 
 -- the first part, once it is written
 half_first : (kind : ℕ) (area new : List ℕ) → length new ≡ kind → take kind (put_mid 0 (kind - 0) area new) ≡ new

@@ -3,72 +3,18 @@
 
 pub mod keep;
 
-ghost use Rattle.std.specs.Prelude.{◌≡◌, true, ◌*◌, ◌-◌, ◌≤◌, ◌<◌, length};
+ghost use Rattle.std.specs.Prelude.{◌≡◌, true, ◌*◌, ◌≤◌, ◌<◌, length};
 ghost use Rattle.cache.specs.Shape.{shaped, Holds};
 ghost use Rattle.body.specs.Decode.{decode, task_of};
 ghost use Rattle.body.specs.Walk.{kept_of};
 ghost use Rattle.rows.specs.Rows.{Width, area_length};
-ghost use Rattle.gather.specs.Gathered.{GatherInput};
 ghost use Rattle.graphs.specs.Graphs.{no_rows, reach_of, live_of};
 ghost use Rattle.task_uncovered.specs.Standing.{Both, Kept, AreaStands};
 
 use body::predecessors::predecessors;
 use cache::blocks::CacheShape;
-use graphs::task_rows::{NO_ROWS, graphs};
+use graphs::task_rows::{NO_ROWS, graphs, live_graph, reaching_graph};
 use keep::keep_rows;
-
-// The rows that blocks hand on to their successors, each overlaid by the last references of the block that gets it. Left open is what `keep_rows` leaves
-// open.
-fn keep_reaching(
-    blocks: usize,
-    sets: [u32; 24],
-    w: usize,
-    last: &[u16],
-    rows: &mut [u16],
-    counts: &mut [usize],
-) -> bool
-    requires { GatherInput w blocks sets (no_rows w) last.now 0 rows.old counts.old }
-    ensures { Kept (reach_of w blocks sets last.now) rows.new counts.new result }
-{
-    let room = 24 * w;
-    keep_rows(
-        blocks,
-        &sets,
-        &NO_ROWS[0..room],
-        last,
-        0,
-        &last[0..w],
-        rows,
-        counts,
-    )
-}
-
-// The rows that blocks hand on to their predecessors, each overlaid by the first references of the block that it leaves. Left open is what `keep_rows`
-// leaves open.
-fn keep_live(
-    blocks: usize,
-    sets: [u32; 24],
-    w: usize,
-    first: &[u16],
-    rows: &mut [u16],
-    counts: &mut [usize],
-) -> bool
-    requires { GatherInput w blocks sets first.now (no_rows w) (blocks - 1) rows.old counts.old }
-    ensures { Kept (live_of w blocks sets first.now) rows.new counts.new result }
-{
-    let before = predecessors(sets, blocks);
-    let room = 24 * w;
-    keep_rows(
-        blocks,
-        &before,
-        first,
-        &NO_ROWS[0..room],
-        blocks - 1,
-        &NO_ROWS[0..w],
-        rows,
-        counts,
-    )
-}
 
 // The rows of both kinds in a work area, those of reaching states first. Left open is what `keep_rows` leaves open, the area from the counts on, and
 // where some block has too many reaching rows the live ones.
@@ -88,10 +34,14 @@ fn keep_both(
         area.new reached.new lived.new result }
 {
     let kind = 24 * (32 * w);
-    if keep_reaching(blocks, sets, w, last, &mut area[0..kind], reached) {
+    let none = &NO_ROWS[0..24 * w];
+    let reaching = reaching_graph(blocks, &sets, w, none, last);
+    if keep_rows(reaching, &mut area[0..kind], reached) {
         return true;
     }
-    keep_live(blocks, sets, w, first, &mut area[kind..kind + kind], lived)
+    let before = predecessors(sets, blocks);
+    let live = live_graph(blocks, &before, w, none, first);
+    keep_rows(live, &mut area[kind..kind + kind], lived)
 }
 
 // Rows that stand for the reaching and the live states of each block of a body, in a work area; true where Table gives 11. Left open are which rows stand

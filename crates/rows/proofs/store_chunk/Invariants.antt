@@ -1,12 +1,9 @@
 -- `rows::store_chunk` meets its contract: after i turns the first i numbers are stored. Assumes nothing.
 use mathlib.Core.Path.{◌≡◌}
-use Prim.Native.Nat.{◌-◌, ◌≤◌}
+use Prim.Native.Nat.{◌≤◌}
 use lib.ListN.{length}
 use lib.Seq.{paste}
 use Rattle.rows.proofs.store_chunk.Given as goal
 
 abbrev pub invariant-loop-i : goal.invariant-loop-i
 invariant-loop-i l = (l.i ≤ 16) × (length l.part ≡ length l.initial.part) × (l.part ≡ paste l.initial.part l.at l.row l.i)
-
-abbrev pub decreases-loop-i : goal.decreases-loop-i
-decreases-loop-i l = 16 - l.i

@@ -12,6 +12,3 @@ abbrev pub invariant-loop-k : goal.invariant-loop-k
 invariant-loop-k l =
     (l.k ≤ l.others) × (length l.rows ≡ length l.row * (l.others + 1)) × (length (insert_row l.row (after (length l.row) (l.others + 1) l.k l.rows)) ≡ l.others + 1 - l.k)
     × (placed (l.others + 1) l.k l.row l.rows ≡ flat (insert_row l.row (rows_of (length l.row) l.others (drop (length l.row) l.initial.rows))))
-
-abbrev pub decreases-loop-k : goal.decreases-loop-k
-decreases-loop-k l = l.others - l.k

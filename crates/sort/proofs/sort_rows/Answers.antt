@@ -64,11 +64,11 @@ overflow_mul-w c = omega (arith, all-rows (goal.at.overflow_mul-w c).Start)
 pub offset_bounds-part-end : goal.offset_bounds-part-end
 offset_bounds-part-end c = omega (arith, all-rows (goal.at.offset_bounds-part-end c).Start)
 
-pub slice_bounds-fill_with-count : goal.slice_bounds-fill_with-count
-slice_bounds-fill_with-count c = omega (arith, all-rows (goal.at.slice_bounds-fill_with-count c).Start)
+pub slice_bounds-fill-count : goal.slice_bounds-fill-count
+slice_bounds-fill-count c = omega (arith, all-rows (goal.at.slice_bounds-fill-count c).Start)
 
 pub returns : goal.returns
 returns c =
     let at = c.loop-others in
     let start = c in
-    sort_end start.args.w start.args.count start.args.part.now start.requires.1 (all-rows (goal.at.returns c).Start).0 start.requires.3 (start.args.count - at.others) (omega arith) at.invariant.2 c.fill_with.ensures
+    sort_end start.args.w start.args.count start.args.part.now start.requires.1 (all-rows (goal.at.returns c).Start).0 start.requires.3 (start.args.count - at.others) (omega arith) at.invariant.2 (c.fill.ensures.after (λ y e. search rules))

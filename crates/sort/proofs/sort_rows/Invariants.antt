@@ -7,6 +7,3 @@ use Rattle.sort.proofs.sort_rows.Given as goal
 
 abbrev pub invariant-loop-others : goal.invariant-loop-others
 invariant-loop-others l = (l.others ≤ l.count) × (length l.part ≡ 32 * l.w) × (l.part ≡ sorted_part l.w l.count (l.count - l.others) l.initial.part)
-
-abbrev pub decreases-loop-others : goal.decreases-loop-others
-decreases-loop-others l = l.count - l.others

@@ -1,6 +1,6 @@
 -- `fill::sort_blocks` meets its contract: after b turns the parts of the first b blocks are sorted. Assumes nothing.
 use mathlib.Core.Path.{◌≡◌}
-use Prim.Native.Nat.{◌-◌, ◌≤◌}
+use Prim.Native.Nat.{◌≤◌}
 use lib.ListN.{length}
 use Rattle.rows.specs.Rows.{kind_length}
 use Rattle.area.proofs.Blocks.{blocks_done}
@@ -8,6 +8,3 @@ use Rattle.area.proofs.fill.sort_blocks.Given as goal
 
 abbrev pub invariant-loop-b : goal.invariant-loop-b
 invariant-loop-b l = (l.b ≤ 24) × (length l.rows ≡ kind_length l.w) × (l.rows ≡ blocks_done l.w l.initial.rows l.counts l.b)
-
-abbrev pub decreases-loop-b : goal.decreases-loop-b
-decreases-loop-b l = 24 - l.b

@@ -5,9 +5,9 @@ use Rattle.area.proofs.row.count_in.Goals as goal
 pub returns-then-live : goal.returns-then-live
 returns-then-live c =
     let args = c.args in
-    live-count args.w args.area.now args.block c.if-live.true c.count.ensures.0
+    live-count args.w args.area.now args.block c.if-live.true c.from.ensures
 
 pub returns : goal.returns
 returns c =
     let args = c.args in
-    reaching-count args.w args.area.now args.block c.if-live.false c.count-2.ensures.0
+    reaching-count args.w args.area.now args.block c.if-live.false c.from-2.ensures

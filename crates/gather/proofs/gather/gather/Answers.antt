@@ -3,7 +3,7 @@ use mathlib.Core.Path.{refl, sym, ◌∙◌}
 use Prim.Native.Nat.{◌+◌}
 use native.Mathlib.Omega.{arith}
 use lib.ListN.{length, get_or, set}
-use Rattle.gather.specs.Gathered.{graph_of}
+use Rattle.gather.specs.Gathered.{graph_meant}
 use Rattle.gather.proofs.Gathering.{Gathering, rest_less, cleared, begin_gathering, begin_waiting, next_turn, end_full, end_through}
 use Rattle.gather.proofs.gather.gather.Goals as goal
 use Rattle.gather.proofs.gather.gather.Goals.{Else-hand_row}
@@ -14,13 +14,13 @@ clear-requires c = c.requires.many
 pub append_to-requires : goal.append_to-requires
 append_to-requires c =
     let start = c in
-    (omega (arith, start.requires.inside, start.requires.few), cleared (length start.args.row.now) start.args.rows.now _ start.requires.width start.requires.long c.clear.ensures)
+    (omega (arith, start.requires.inside, start.requires.few), cleared (length start.args.graph.row.now) start.args.rows.now _ start.requires.width start.requires.long c.clear.ensures)
 
 pub loop-b-init : goal.loop-b-init
 loop-b-init c =
     let start = c in
     let args = start.args in
-    let g = (graph_of (length args.row.now) args.blocks args.sets.now args.leaving.now args.entering.now args.first args.row.now) in
+    let g = (graph_meant args.graph) in
     let zeros = c.clear.ensures in
     let appended = c.append_to.ensures in
     (begin_gathering g start.requires.few start.requires.inside zeros appended, begin_waiting g start.requires.few start.requires.inside zeros appended)
@@ -31,11 +31,11 @@ offset_bounds-done-b c = omega (arith, c.loop-b-test.true)
 pub bounds-done-b : goal.bounds-done-b
 bounds-done-b c = c.loop-b-test.true
 
-pub offset_bounds-sets-b : goal.offset_bounds-sets-b
-offset_bounds-sets-b c = omega (arith, c.loop-b-test.true)
+pub offset_bounds-graph-b : goal.offset_bounds-graph-b
+offset_bounds-graph-b c = omega (arith, c.loop-b-test.true)
 
-pub bounds-sets-b : goal.bounds-sets-b
-bounds-sets-b c = omega (arith, c.loop-b-test.true, c.requires.each)
+pub bounds-graph-b : goal.bounds-graph-b
+bounds-graph-b c = omega (arith, c.loop-b-test.true, c.requires.each)
 
 pub hand_row-requires : goal.hand_row-requires
 hand_row-requires c =
@@ -56,7 +56,7 @@ returns-then-hand_row c =
     let args = start.args in
     let at = c.loop-b in
     let inside = c.loop-b-test.true in
-    end_full (graph_of (length args.row.now) args.blocks args.sets.now args.leaving.now args.entering.now args.first args.row.now) at.rows at.counts at.done start.requires.few start.requires.inside at.invariant.0 at.b inside (at.invariant.1.waits inside) refl
+    end_full (graph_meant args.graph) at.rows at.counts at.done start.requires.few start.requires.inside at.invariant.0 at.b inside (at.invariant.1.waits inside) refl
     (c.hand_row.ensures.stopped c.if-hand_row.true)
 
 pub overflow_add-done : goal.overflow_add-done
@@ -72,13 +72,13 @@ bounds-done-b-in-loop-b c = c.loop-b-test.true
 after : (c : Else-hand_row)
     → let args = c.args in
     let at = c.loop-b in
-    Gathering (graph_of (length args.row.now) args.blocks args.sets.now args.leaving.now args.entering.now args.first args.row.now) c.hand_row.new.rows c.hand_row.new.counts (set at.done at.b (get_or at.done at.b 0 + 1))
+    Gathering (graph_meant args.graph) c.hand_row.new.rows c.hand_row.new.counts (set at.done at.b (get_or at.done at.b 0 + 1))
 after c =
     let start = c in
     let args = start.args in
     let at = c.loop-b in
     let inside = c.loop-b-test.true in
-    next_turn (graph_of (length args.row.now) args.blocks args.sets.now args.leaving.now args.entering.now args.first args.row.now) at.rows at.counts at.done start.requires.few start.requires.inside at.invariant.0 at.b inside (at.invariant.1.waits inside) refl
+    next_turn (graph_meant args.graph) at.rows at.counts at.done start.requires.few start.requires.inside at.invariant.0 at.b inside (at.invariant.1.waits inside) refl
     (c.hand_row.ensures.all c.if-hand_row.false)
 
 pub slice_bounds-next_waiting-end : goal.slice_bounds-next_waiting-end
@@ -107,4 +107,4 @@ returns c =
     let start = c in
     let args = start.args in
     let at = c.loop-b in
-    end_through (graph_of (length args.row.now) args.blocks args.sets.now args.leaving.now args.entering.now args.first args.row.now) at.rows at.counts at.done start.requires.few start.requires.inside at.invariant.0 (at.invariant.1.none c.loop-b-test.false)
+    end_through (graph_meant args.graph) at.rows at.counts at.done start.requires.few start.requires.inside at.invariant.0 (at.invariant.1.none c.loop-b-test.false)

@@ -2,7 +2,7 @@
 -- The idea: each turn puts the two rows of one block, cut off after w places, after those of the blocks before it.
 use mathlib.Core.Path.{◌≡◌}
 use mathlib.Core.List.{List}
-use Prim.Native.Nat.{ℕ, ◌*◌, ◌≤◌, ◌-◌}
+use Prim.Native.Nat.{ℕ, ◌*◌, ◌≤◌}
 use lib.ListN.{length}
 use Rattle.cache.specs.Cache.{Cache, empty_row, with_references, first_references}
 use Rattle.cache.specs.Shape.{shaped}
@@ -22,6 +22,3 @@ abbrev pub invariant-loop-b : goal.invariant-loop-b
 invariant-loop-b l =
     (l.b ≤ l.b-end) × (length l.first ≡ 24 * l.w) × (length l.last ≡ 24 * l.w) × (l.first ≡ rows_to l.w (firsts (shaped l.w l.shape)) (task_of (decode l.body)) l.b)
     × (l.last ≡ rows_to l.w (lasts (shaped l.w l.shape)) (task_of (decode l.body)) l.b)
-
-abbrev pub decreases-loop-b : goal.decreases-loop-b
-decreases-loop-b l = l.b-end - l.b

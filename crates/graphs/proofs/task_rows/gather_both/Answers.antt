@@ -4,37 +4,49 @@ use mathlib.Core.Path.{◌≡◌, refl}
 use Prim.Native.Nat.{◌*◌}
 use native.Mathlib.Omega.{arith}
 use lib.ListN.{length}
-use Rattle.graphs.specs.Graphs.{reach_of, live_of}
-use Rattle.graphs.proofs.Gathered.{first-wide, reach_input, live_input, half_live, both_full, both-all}
 use borrow.Author.Rules.{rules}
+use Rattle.gather.specs.Gathered.{GatheredAs}
+use Rattle.graphs.specs.Graphs.{reach_of, live_of}
+use Rattle.graphs.proofs.Gathered.{nothings, first-wide, reach_input, live_input, half_live, both_full, both-all, graph_asks, graph_told, live_turned}
 use Rattle.graphs.proofs.task_rows.gather_both.Goals as goal
 
-pub gather_reaching-requires : goal.gather_reaching-requires
-gather_reaching-requires c =
+pub reaching_graph-reaching-requires : goal.reaching_graph-reaching-requires
+reaching_graph-reaching-requires c = (omega (arith, c.requires.4), nothings (24 * c.args.w) 768 (omega (arith, c.requires.0.narrow)))
+
+pub gather-requires : goal.gather-requires
+gather-requires c =
     let start = c in
     let args = start.args in
     let each : length args.sets ≡ 24 = search rules in
-    reach_input args.w args.blocks start.requires.0 start.requires.1 start.requires.2 each
-    (first-wide (24 * (32 * args.w)) args.area.now (omega (arith, start.requires.5))) start.requires.6 start.requires.4
+    graph_asks c.reaching_graph-reaching.result c.reaching_graph-reaching.ensures
+    (reach_input args.w args.blocks start.requires.0 start.requires.1 start.requires.2 each
+    (first-wide (24 * (32 * args.w)) args.area.now (omega (arith, start.requires.5))) start.requires.6 start.requires.4)
 
-pub returns-then-gather_reaching : goal.returns-then-gather_reaching
-returns-then-gather_reaching c =
+pub returns-then-gather : goal.returns-then-gather
+returns-then-gather c =
     let start = c in
     let args = start.args in
     both_full (reach_of args.w args.blocks args.sets args.last.now) (live_of args.w args.blocks args.sets args.first.now) args.area.now _ start.requires.5
-    c.gather_reaching.ensures c.if-gather_reaching.true start.requires.7
+    (graph_told GatheredAs c.reaching_graph-reaching.result c.reaching_graph-reaching.ensures c.gather.ensures) c.if-gather.true start.requires.7
 
-pub gather_live-requires : goal.gather_live-requires
-gather_live-requires c =
+pub live_graph-live-requires : goal.live_graph-live-requires
+live_graph-live-requires c = (c.requires.1, nothings (24 * c.args.w) 768 (omega (arith, c.requires.0.narrow)))
+
+pub gather-requires-2 : goal.gather-requires-2
+gather-requires-2 c =
     let start = c in
     let args = start.args in
-    let each : length args.sets ≡ 24 = search rules in
-    live_input args.w args.blocks start.requires.0 start.requires.1 start.requires.2 each
-    (half_live (24 * (32 * args.w)) args.area.now c.gather_reaching.new.rows start.requires.5 c.gather_reaching.ensures.long) start.requires.7 start.requires.3
+    let each : length c.predecessors-before.result ≡ 24 = search rules in
+    let reached = graph_told GatheredAs c.reaching_graph-reaching.result c.reaching_graph-reaching.ensures c.gather.ensures in
+    graph_asks c.live_graph-live.result c.live_graph-live.ensures
+    (live_input args.w args.blocks start.requires.0 start.requires.1 start.requires.2 each
+    (half_live (24 * (32 * args.w)) args.area.now c.gather.new.rows start.requires.5 reached.long) start.requires.7 start.requires.3)
 
 pub returns : goal.returns
 returns c =
     let start = c in
     let args = start.args in
     both-all (reach_of args.w args.blocks args.sets args.last.now) (live_of args.w args.blocks args.sets args.first.now) args.area.now _ start.requires.5
-    c.gather_reaching.ensures c.if-gather_reaching.false refl c.gather_live.ensures
+    (graph_told GatheredAs c.reaching_graph-reaching.result c.reaching_graph-reaching.ensures c.gather.ensures) c.if-gather.false refl
+    (graph_told GatheredAs c.live_graph-live.result
+    (live_turned args.w args.blocks args.sets args.first.now c.live_graph-live.result c.predecessors-before.ensures c.live_graph-live.ensures) c.gather-2.ensures)

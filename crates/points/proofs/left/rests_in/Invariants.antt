@@ -12,6 +12,3 @@ abbrev pub invariant-loop-d : goal.invariant-loop-d
 invariant-loop-d l =
     (l.d ≤ length (numbers l.references)) × (length l.rest ≡ length l.initial.rest) × (length l.rests ≡ 17 * length l.initial.rest)
     × (l.rest ≡ rest_of (shaped (length l.initial.rest) l.shape) (numbers l.references) l.d) × RestsFrom (shaped (length l.initial.rest) l.shape) (numbers l.references) l.rests l.d
-
-abbrev pub decreases-loop-d : goal.decreases-loop-d
-decreases-loop-d l = l.d

@@ -10,6 +10,3 @@ use Rattle.uncovered.proofs.kept.below_some.Given as goal
 abbrev pub invariant-loop-k : goal.invariant-loop-k
 invariant-loop-k l =
     (l.k ≤ l.count) × (below_some within l.row (rows_of (length l.row) (l.count - l.k) (drop (length l.row * l.k) l.part)) ≡ below_some within l.row (rows_of (length l.row) l.count l.part))
-
-abbrev pub decreases-loop-k : goal.decreases-loop-k
-decreases-loop-k l = l.count - l.k

@@ -5,7 +5,7 @@ use native.Mathlib.Omega.{arith}
 use lib.ListN.{length, get_or, take, drop}
 use Rattle.rows.proofs.Parts.{row_within}
 use Rattle.gather.specs.Memory.{held_rows}
-use Rattle.gather.specs.Gathered.{graph_of}
+use Rattle.gather.specs.Gathered.{graph_meant}
 use Rattle.gather.proofs.Handing.{part_at, memory_for}
 use Rattle.uncovered.specs.Offers.{up_to, handed_from}
 use Rattle.uncovered.proofs.News.{lent_wide}
@@ -15,14 +15,14 @@ use Rattle.uncovered.proofs.round.offer_rank.Goals as goal
 use Rattle.uncovered.proofs.round.offer_rank.Goals.{In-loop-b}
 
 -- where the rows of block b end, and the row that is laid over them
-inside : (c : In-loop-b) → let w = length c.args.row.now in (32 * w * c.loop-b.b + 32 * w ≤ 24 * (32 * w)) × (w * c.loop-b.b + w ≤ 24 * w) × (w ≤ 32) × (c.loop-b.b < 24)
+inside : (c : In-loop-b) → let w = length c.args.graph.row.now in (32 * w * c.loop-b.b + 32 * w ≤ 24 * (32 * w)) × (w * c.loop-b.b + w ≤ 24 * w) × (w ≤ 32) × (c.loop-b.b < 24)
 inside c =
-    let w = length c.args.row.now in
+    let w = length c.args.graph.row.now in
     let below : c.loop-b.b < 24 = omega (arith, c.requires.0.few, c.loop-b-test.true) in
     (omega (arith, row_within (32 * w) c.loop-b.b 24 below), omega (arith, row_within w c.loop-b.b 24 below), c.requires.0.width.narrow, below)
 
-wide : (c : In-loop-b) → let w = length c.args.row.now in length (take (w * c.loop-b.b + w - w * c.loop-b.b) (drop (w * c.loop-b.b) c.args.leaving.now)) ≡ w
-wide c = lent_wide (length c.args.row.now) c.loop-b.b 24 c.args.leaving.now (inside c).3 c.requires.0.leaves
+wide : (c : In-loop-b) → let w = length c.args.graph.row.now in length (take (w * c.loop-b.b + w - w * c.loop-b.b) (drop (w * c.loop-b.b) c.args.graph.leaving.now)) ≡ w
+wide c = lent_wide (length c.args.graph.row.now) c.loop-b.b 24 c.args.graph.leaving.now (inside c).3 c.requires.0.leaves
 
 pub overflow_mul-part : goal.overflow_mul-part
 overflow_mul-part c = omega (arith, c.requires.0.width.narrow)
@@ -31,10 +31,10 @@ pub offer-requires : goal.offer-requires
 offer-requires c = (omega (arith, c.requires.0.inside, c.requires.0.few), c.requires.2)
 
 pub returns-then-offer : goal.returns-then-offer
-returns-then-offer c = rank_none (length c.args.row.now) c.args.rank (c.args.first, c.args.row.now) (up_to (handed_from (graph_of (length c.args.row.now) c.args.blocks c.args.sets.now c.args.leaving.now c.args.entering.now c.args.first c.args.row.now) (held_rows (length c.args.row.now) c.args.old.now c.args.held.now)) c.args.blocks) c.args.rows.now c.args.counts.now c.if-offer.true c.offer.ensures
+returns-then-offer c = rank_none (length c.args.graph.row.now) c.args.rank (c.args.graph.first, c.args.graph.row.now) (up_to (handed_from (graph_meant c.args.graph) (held_rows (length c.args.graph.row.now) c.args.old.now c.args.held.now)) c.args.graph.blocks) c.args.rows.now c.args.counts.now c.if-offer.true c.offer.ensures
 
 pub loop-b-init : goal.loop-b-init
-loop-b-init c = (omega arith, took_none (length c.args.row.now) _ _ c.offer.ensures.memory)
+loop-b-init c = (omega arith, took_none (length c.args.graph.row.now) _ _ c.offer.ensures.memory)
 
 pub overflow_mul-at : goal.overflow_mul-at
 overflow_mul-at c = omega (arith, inside c)
@@ -60,22 +60,22 @@ bounds-held-b c = omega (arith, inside (goal.at.bounds-held-b c).In-loop-b, c.re
 pub overflow_add-over : goal.overflow_add-over
 overflow_add-over c = omega (arith, inside (goal.at.overflow_add-over c).In-loop-b)
 
-pub offset_bounds-leaving-over : goal.offset_bounds-leaving-over
-offset_bounds-leaving-over c = omega (arith, inside (goal.at.offset_bounds-leaving-over c).In-loop-b)
+pub offset_bounds-graph-over : goal.offset_bounds-graph-over
+offset_bounds-graph-over c = omega (arith, inside (goal.at.offset_bounds-graph-over c).In-loop-b)
 
 pub slice_bounds-offer_rows-end-in-loop-b : goal.slice_bounds-offer_rows-end-in-loop-b
 slice_bounds-offer_rows-end-in-loop-b c = omega (arith, inside (goal.at.slice_bounds-offer_rows-end-in-loop-b c).In-loop-b, c.requires.0.leaves)
 
-pub offset_bounds-sets-b : goal.offset_bounds-sets-b
-offset_bounds-sets-b c = omega (arith, inside (goal.at.offset_bounds-sets-b c).In-loop-b)
+pub offset_bounds-graph-b : goal.offset_bounds-graph-b
+offset_bounds-graph-b c = omega (arith, inside (goal.at.offset_bounds-graph-b c).In-loop-b)
 
-pub bounds-sets-b : goal.bounds-sets-b
-bounds-sets-b c = omega (arith, inside (goal.at.bounds-sets-b c).In-loop-b, c.requires.1.many, c.requires.0.each)
+pub bounds-graph-b : goal.bounds-graph-b
+bounds-graph-b c = omega (arith, inside (goal.at.bounds-graph-b c).In-loop-b, c.requires.1.many, c.requires.0.each)
 
 pub offer_rows-requires : goal.offer_rows-requires
 offer_rows-requires c = (
   c.requires.1.few c.loop-b.b (inside (goal.at.offer_rows-requires c).In-loop-b).3,
-  lent_wide (32 * length c.args.row.now) c.loop-b.b 24 c.args.old.now (inside (goal.at.offer_rows-requires c).In-loop-b).3 c.requires.1.long ∙ ap (λ (n : ℕ). 32 * n) (sym (wide (goal.at.offer_rows-requires c).In-loop-b)),
+  lent_wide (32 * length c.args.graph.row.now) c.loop-b.b 24 c.args.old.now (inside (goal.at.offer_rows-requires c).In-loop-b).3 c.requires.1.long ∙ ap (λ (n : ℕ). 32 * n) (sym (wide (goal.at.offer_rows-requires c).In-loop-b)),
   c.requires.0.few,
   c.requires.0.enters ∙ ap (λ (n : ℕ). 24 * n) (sym (wide (goal.at.offer_rows-requires c).In-loop-b)),
   memory_for (wide (goal.at.offer_rows-requires c).In-loop-b) c.loop-b.invariant.1.memory,
@@ -83,13 +83,13 @@ offer_rows-requires c = (
 
 pub returns-then-offer_rows : goal.returns-then-offer_rows
 returns-then-offer_rows c =
-    rank_all (length c.args.row.now) c.args.rank (c.args.first, c.args.row.now) (handed_from (graph_of (length c.args.row.now) c.args.blocks c.args.sets.now c.args.leaving.now c.args.entering.now c.args.first c.args.row.now) (held_rows (length c.args.row.now) c.args.old.now c.args.held.now)) c.args.blocks c.args.rows.now c.args.counts.now (c.offer.ensures.all c.if-offer.false)
-    (turn_full (length c.args.row.now) _ _ (becomes c.args.rank c.args.blocks c.args.sets.now c.args.leaving.now c.args.entering.now c.args.first c.args.row.now c.args.old.now c.args.held.now) c.loop-b.b c.loop-b.invariant.1 (block_taken (length c.args.row.now) c.args.rank c.loop-b.b c.args.blocks (get_or c.args.held.now c.loop-b.b 0) c.args.sets.now c.args.leaving.now c.args.entering.now c.args.old.now c.args.held.now c.loop-b.rows c.loop-b.counts (get_or c.args.sets.now c.loop-b.b 0) _ refl (part_at (length c.args.row.now) c.loop-b.b c.args.leaving.now) refl (wide (goal.at.returns-then-offer_rows c).In-loop-b) c.offer_rows.ensures) c.args.blocks c.loop-b-test.true c.if-offer_rows.true)
+    rank_all (length c.args.graph.row.now) c.args.rank (c.args.graph.first, c.args.graph.row.now) (handed_from (graph_meant c.args.graph) (held_rows (length c.args.graph.row.now) c.args.old.now c.args.held.now)) c.args.graph.blocks c.args.rows.now c.args.counts.now (c.offer.ensures.all c.if-offer.false)
+    (turn_full (length c.args.graph.row.now) _ _ (becomes c.args.rank c.args.graph c.args.old.now c.args.held.now) c.loop-b.b c.loop-b.invariant.1 (block_taken (length c.args.graph.row.now) c.args.rank c.loop-b.b c.args.graph.blocks (get_or c.args.held.now c.loop-b.b 0) c.args.graph.sets.now c.args.graph.leaving.now c.args.graph.entering.now c.args.old.now c.args.held.now c.loop-b.rows c.loop-b.counts (get_or c.args.graph.sets.now c.loop-b.b 0) _ refl (part_at (length c.args.graph.row.now) c.loop-b.b c.args.graph.leaving.now) refl (wide (goal.at.returns-then-offer_rows c).In-loop-b) c.offer_rows.ensures) c.args.graph.blocks c.loop-b-test.true c.if-offer_rows.true)
 
 pub loop-b-preserved : goal.loop-b-preserved
-loop-b-preserved c = (omega (arith, c.loop-b-test.true), turn_more (length c.args.row.now) _ _ (becomes c.args.rank c.args.blocks c.args.sets.now c.args.leaving.now c.args.entering.now c.args.first c.args.row.now c.args.old.now c.args.held.now) c.loop-b.b c.loop-b.invariant.1 (block_taken (length c.args.row.now) c.args.rank c.loop-b.b c.args.blocks (get_or c.args.held.now c.loop-b.b 0) c.args.sets.now c.args.leaving.now c.args.entering.now c.args.old.now c.args.held.now c.loop-b.rows c.loop-b.counts (get_or c.args.sets.now c.loop-b.b 0) _ refl (part_at (length c.args.row.now) c.loop-b.b c.args.leaving.now) refl (wide (goal.at.loop-b-preserved c).In-loop-b) c.offer_rows.ensures) c.if-offer_rows.false)
+loop-b-preserved c = (omega (arith, c.loop-b-test.true), turn_more (length c.args.graph.row.now) _ _ (becomes c.args.rank c.args.graph c.args.old.now c.args.held.now) c.loop-b.b c.loop-b.invariant.1 (block_taken (length c.args.graph.row.now) c.args.rank c.loop-b.b c.args.graph.blocks (get_or c.args.held.now c.loop-b.b 0) c.args.graph.sets.now c.args.graph.leaving.now c.args.graph.entering.now c.args.old.now c.args.held.now c.loop-b.rows c.loop-b.counts (get_or c.args.graph.sets.now c.loop-b.b 0) _ refl (part_at (length c.args.graph.row.now) c.loop-b.b c.args.graph.leaving.now) refl (wide (goal.at.loop-b-preserved c).In-loop-b) c.offer_rows.ensures) c.if-offer_rows.false)
 
 pub returns : goal.returns
 returns c =
-    rank_all (length c.args.row.now) c.args.rank (c.args.first, c.args.row.now) (handed_from (graph_of (length c.args.row.now) c.args.blocks c.args.sets.now c.args.leaving.now c.args.entering.now c.args.first c.args.row.now) (held_rows (length c.args.row.now) c.args.old.now c.args.held.now)) c.args.blocks c.args.rows.now c.args.counts.now (c.offer.ensures.all c.if-offer.false)
-    (turn_end (length c.args.row.now) _ _ (becomes c.args.rank c.args.blocks c.args.sets.now c.args.leaving.now c.args.entering.now c.args.first c.args.row.now c.args.old.now c.args.held.now) c.loop-b.b c.loop-b.invariant.1 c.args.blocks (omega arith))
+    rank_all (length c.args.graph.row.now) c.args.rank (c.args.graph.first, c.args.graph.row.now) (handed_from (graph_meant c.args.graph) (held_rows (length c.args.graph.row.now) c.args.old.now c.args.held.now)) c.args.graph.blocks c.args.rows.now c.args.counts.now (c.offer.ensures.all c.if-offer.false)
+    (turn_end (length c.args.graph.row.now) _ _ (becomes c.args.rank c.args.graph c.args.old.now c.args.held.now) c.loop-b.b c.loop-b.invariant.1 c.args.graph.blocks (omega arith))

@@ -1,6 +1,6 @@
 -- `round::offer_rows` meets its contract: after k turns all that the first k rows become is offered. Assumes nothing.
 use mathlib.Core.List.{List, []}
-use Prim.Native.Nat.{ℕ, ◌-◌, ◌≤◌}
+use Prim.Native.Nat.{ℕ, ◌≤◌}
 use lib.ListN.{length, get_or}
 use Rattle.model.specs.Computed.{State}
 use Rattle.rows.specs.Overlay.{overlay}
@@ -16,6 +16,3 @@ becomes rank part count over set blocks entering i = of_rank rank (offers_on (le
 abbrev pub invariant-loop-k : goal.invariant-loop-k
 invariant-loop-k l =
     (l.k ≤ l.count) × Took (length l.over) (up_to (becomes l.rank l.part l.count l.over l.set l.blocks l.entering) l.k) l.initial.rows l.initial.counts l.rows l.counts
-
-abbrev pub decreases-loop-k : goal.decreases-loop-k
-decreases-loop-k l = l.count - l.k

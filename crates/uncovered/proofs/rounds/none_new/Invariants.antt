@@ -8,6 +8,3 @@ use Rattle.uncovered.proofs.rounds.none_new.Given as goal
 
 abbrev pub invariant-loop-k : goal.invariant-loop-k
 invariant-loop-k l = (l.k ≤ l.count) × (sub same_list (rows_of l.w (l.count - l.k) (drop (l.w * l.k) l.part)) (rows_of l.w l.many l.old) ≡ sub same_list (rows_of l.w l.count l.part) (rows_of l.w l.many l.old))
-
-abbrev pub decreases-loop-k : goal.decreases-loop-k
-decreases-loop-k l = l.count - l.k

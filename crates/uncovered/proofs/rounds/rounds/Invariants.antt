@@ -1,16 +1,13 @@
 -- `rounds::rounds` meets its contract: after k turns each block has the uncovered rows of at most k handings on. Assumes nothing.
 use mathlib.Core.Path.{◌≡◌}
-use Prim.Native.Nat.{◌-◌, ◌≤◌}
+use Prim.Native.Nat.{◌≤◌}
 use lib.ListN.{length}
 use Rattle.rows.specs.Rows.{kind_length}
-use Rattle.gather.specs.Gathered.{graph_of}
+use Rattle.gather.specs.Gathered.{graph_meant}
 use Rattle.uncovered.specs.Taken.{enough}
 use Rattle.uncovered.proofs.Rounding.{After}
 use Rattle.uncovered.proofs.rounds.rounds.Given as goal
 
 abbrev pub invariant-loop-k : goal.invariant-loop-k
 invariant-loop-k l =
-    (l.k ≤ enough (length l.row)) × (length l.room ≡ kind_length (length l.row)) × (length l.next ≡ 24) × After (graph_of (length l.row) l.blocks l.sets l.leaving l.entering l.first l.row) l.k l.rows l.counts
-
-abbrev pub decreases-loop-k : goal.decreases-loop-k
-decreases-loop-k l = enough (length l.row) - l.k
+    (l.k ≤ enough (length l.graph.row.now)) × (length l.room ≡ kind_length (length l.graph.row.now)) × (length l.next ≡ 24) × After (graph_meant l.graph) l.k l.rows l.counts

@@ -1,5 +1,5 @@
 -- `BlockReferences::gather` meets its contract. The loop's invariant is `RowsSoFar`, of the references read. Assumes nothing.
-use Prim.Native.Nat.{◌/◌, ◌-◌, ◌≤◌}
+use Prim.Native.Nat.{◌/◌, ◌≤◌}
 use lib.ListN.{length, take}
 use Rattle.cache.specs.References.{numbers}
 use Rattle.cache.specs.Shape.{shaped}
@@ -9,6 +9,3 @@ use Rattle.cache.proofs.references.BlockReferences.gather.Given as goal
 abbrev pub invariant-loop-i : goal.invariant-loop-i
 invariant-loop-i l =
     RowsSoFar (shaped 32 l.shape) (take l.i (numbers l.references)) l.first.cells l.last.cells × (l.i ≤ length l.references / 2)
-
-abbrev pub decreases-loop-i : goal.decreases-loop-i
-decreases-loop-i l = length l.references / 2 - l.i
