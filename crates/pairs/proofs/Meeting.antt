@@ -3,45 +3,17 @@
 use mathlib.Core.Path.{◌≡◌, refl, sym, ap, ◌∙◌}
 use mathlib.Core.Bool.{Bool, true, false}
 use mathlib.Core.List.{List, [], ◌∷◌}
-use Prim.Native.Nat.{ℕ, ◌+◌, ◌-◌, ◌*◌, ◌^◌, ◌≤◌, ◌<◌, max}
+use Prim.Native.Nat.{ℕ, ◌+◌, ◌^◌, ◌≤◌, ◌<◌, max}
 use native.Mathlib.Nat.{le_trans}
-use native.Mathlib.Numerals.{add-one}
 use native.Mathlib.Omega.{arith}
 use lib.Dec.{eqb}
-use lib.ListN.{length, get_or, set, take, drop, length-set, drop_of_length-le}
-use lib.Seq.{drop-cons, get_or-set_same, get_or-set_other}
+use lib.ListN.{length, get_or, set, length-set}
+use lib.Seq.{get_or-set_same, get_or-set_other}
 use lib.Count.{ones, ones-le}
 use borrow.Author.Tests.{eqb-true, eqb-false}
 use Rattle.cache.proofs.Bits.{and_ones}
-use Rattle.model.specs.Lists.{best}
-use Rattle.pairs.specs.Pairs.{most_common, sets_most, end_rows, Met}
+use Rattle.pairs.specs.Pairs.{most_common, end_rows, Met}
 use Rattle.pairs.specs.declared.ends.Ends.{Ends}
-
--- ---- the most that one of some sets counts
-
-module _ (f : ℕ → ℕ) (vs : List ℕ) where
-  -- a turn: x is what the set numbered k counts, and m becomes the larger
-  pub most_turn : (k m : ℕ) {x new : ℕ} → k < length vs → x ≡ f (get_or vs k 0) → new ≡ max m x → max m (best f (drop k vs)) ≡ best f vs
-      → max new (best f (drop (k + 1) vs)) ≡ best f vs
-  most_turn k m {x} {new} h e q i =
-      let n : best f (drop k vs) ≡ max x (best f (drop (k + 1) vs)) = rw (drop-cons vs k 0 h, add-one k, e) in
-      omega arith
-
-  pub most-end : (k m : ℕ) → length vs ≤ k → max m (best f (drop k vs)) ≡ best f vs → m ≡ best f vs
-  most-end k m h i = let n : best f (drop k vs) ≡ 0 = ap (best f) (drop_of_length-le vs {i = k} h) in omega arith
-
--- the most over the useful sets, of which those from k on are left: a turn raises m by the set numbered k
-module _ (us vs : List ℕ) (number : ℕ) where
-  pub sets_turn : (k m : ℕ) {new : ℕ} → k < length us → new ≡ max m (most_common (get_or us k 0) vs) → max m (sets_most (drop k us) vs) ≡ max number (sets_most us vs)
-      → max new (sets_most (drop (k + 1) us) vs) ≡ max number (sets_most us vs)
-  sets_turn k m {new} h q i =
-      let n : sets_most (drop k us) vs ≡ max (most_common (get_or us k 0) vs) (sets_most (drop (k + 1) us) vs) = rw (drop-cons us k 0 h, add-one k) in
-      omega (arith, n, q, i)
-
-  pub sets_end : (k m : ℕ) → length us ≤ k → max m (sets_most (drop k us) vs) ≡ max number (sets_most us vs) → m ≡ max number (sets_most us vs)
-  sets_end k m h i =
-      let n : sets_most (drop k us) vs ≡ 0 = ap (λ (x : List ℕ). sets_most x vs) (drop_of_length-le us {i = k} h) in
-      omega (arith, n, i)
 
 pub most_ones : (u : ℕ) (vs : List ℕ) → u < 2 ^ 32 → most_common u vs ≤ ones u
 most_ones u [] h = omega arith

@@ -18,11 +18,8 @@ pub fn most_common(set: u32, sets: &[u32]) -> u32
     ensures { result ≡ most_common set sets.now }
 {
     let mut most: u32 = 0;
-    for k in 0..sets.len() {
-        let both = common(set, sets[k]);
-        if most < both {
-            most = both;
-        }
+    for other in sets {
+        most = most.max(common(set, *other));
     }
     most
 }
@@ -32,11 +29,8 @@ fn largest(sets: &[u32]) -> u32
     ensures { result ≡ largest_of sets.now }
 {
     let mut most: u32 = 0;
-    for k in 0..sets.len() {
-        let size = u32::count_ones(sets[k]);
-        if most < size {
-            most = size;
-        }
+    for set in sets {
+        most = most.max(set.count_ones());
     }
     most
 }
@@ -51,7 +45,7 @@ fn raised(number: u16, set: u32, sets: &[u32], all: u32) -> u16
         return number;
     }
     let most = most_common(set, sets) as u16;
-    if number < most { most } else { number }
+    number.max(most)
 }
 
 // The number, raised to the most that one of the useful sets has in common with one of the sets.
@@ -60,8 +54,8 @@ fn raised_by_sets(number: u16, useful: &[u32], sets: &[u32], all: u32) -> u16
     ensures { result ≡ max number (sets_most useful.now sets.now) }
 {
     let mut most = number;
-    for k in 0..useful.len() {
-        most = raised(most, useful[k], sets, all);
+    for set in useful {
+        most = raised(most, *set, sets, all);
     }
     most
 }
