@@ -1,0 +1,20 @@
+-- What a block of a task is made of. Definitions only.
+use Rattle.std.specs.Prelude.{List, [], ◌∷◌, ℕ, ◌/◌, ◌≤◌, length}
+use Rattle.std.specs.Coded.{×_prop, Unit-prop}
+use Rattle.cache.specs.declared.blocks.CacheShape.{CacheShape}
+use Rattle.cache.specs.References.{Real, All}
+use Rattle.cache.specs.Shape.{Holds}
+
+-- a task has at most 24 blocks, and a block at most 16 references; rows of w places have one for each cache block
+pub record BlockParts (w : ℕ) (shape : CacheShape) (blocks : ℕ) (references : List ℕ) : Type 0 where
+  pub holds : Holds w shape
+  pub inside : blocks ≤ 24
+  pub few : length references / 2 ≤ 16
+
+-- there is at most one proof that references are memory blocks
+Real-prop : (m : ℕ) → IsProp (Real m)
+Real-prop m = Prim.hlevel
+
+pub all_real_prop : (ms : List ℕ) → IsProp (All Real ms)
+all_real_prop [] = Unit-prop
+all_real_prop (m ∷ ms) = ×_prop (Real-prop m) (all_real_prop ms)

@@ -1,0 +1,5 @@
+// A block of a task, and the rows that a task has for each of its blocks.
+#![tactic(auto)]
+
+pub mod block;
+pub mod held;
