@@ -1,7 +1,8 @@
 // The rows that a task has for each of its blocks.
 ghost use Rattle.std.specs.Prelude.{◌≡◌, ◌<◌};
 ghost use Rattle.gather.specs.Memory.{Memory};
-ghost use Rattle.rows.specs.Rows.{part_of};
+
+use crate::row_list::RowList;
 
 // Rows of w numbers for each block of a task: room for 32 of them for each of 24 blocks. `counts` tells how many a block has.
 #[derive(Clone, Copy)]
@@ -13,13 +14,19 @@ pub struct Held<'a> {
 }
 
 impl<'a> Held<'a> {
-    // The room for the rows of block b.
-    pub fn room_of(&self, b: usize) -> &'a [u16]
+    ghost use Rattle.block_rows.specs.BlockRows.{listed, rows_by};
+
+    // The rows of block b.
+    pub fn of_block(&self, b: usize) -> RowList<'a>
         requires { b < 24 }
-        ensures { result.now ≡ part_of self.now.w self.now.rows.now b }
+        ensures { (result.w ≡ self.now.w) × (listed result ≡ rows_by self.now b) }
     {
         let part = 32 * self.w;
         let at = part * b;
-        &self.rows[at..at + part]
+        RowList {
+            w: self.w,
+            rows: &self.rows[at..at + part],
+            count: self.counts[b],
+        }
     }
 }

@@ -3,3 +3,4 @@
 
 pub mod block;
 pub mod held;
+pub mod row_list;

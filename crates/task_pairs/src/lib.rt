@@ -8,14 +8,14 @@ ghost use Rattle.model.specs.Lists.{best};
 ghost use Rattle.model.specs.Computed.{up_from};
 ghost use Rattle.body.specs.Decode.{decode, task_of};
 ghost use Rattle.body.specs.Walk.{kept_of};
-ghost use Rattle.rows.specs.Rows.{rows_of};
 ghost use Rattle.points.specs.Points.{rows_in, rows_before};
 ghost use Rattle.pairs.specs.Pairs.{live_rows, Met};
-ghost use Rattle.block_rows.specs.BlockRows.{cache_of, references_of, rows_by};
+ghost use Rattle.block_rows.specs.BlockRows.{cache_of, references_of, rows_by, listed};
 ghost use Rattle.task_pairs.specs.TaskPairs.{done_most, before_most, block_most, task_most, PointRows};
 
 use block_rows::block::Block;
 use block_rows::held::Held;
+use block_rows::row_list::RowList;
 use body::jumps::jumps;
 use body::masks::unmasked_blocks;
 use body::predecessors::predecessors;
@@ -95,17 +95,16 @@ fn meet_before(row: &[u16], points: &Points, numbers: &mut [u16])
     meet_done(&mut done[0..w], points, numbers);
 }
 
-// The same for the first `count` rows.
-fn meet_rows(rows: &[u16], count: usize, points: &Points, numbers: &mut [u16])
-    requires { (length rows.now ≡ 32 * points.now.block.w) × (count ≤ 32) × (length numbers.old ≡ 8) }
-    ensures { Met (block_most (cache_of points.now.block) (references_of points.now.block) (live_rows points.now.lives)
-        (rows_of points.now.block.w count rows.now))
+// The same for each row of a list.
+fn meet_rows(list: &RowList, points: &Points, numbers: &mut [u16])
+    requires { (list.now.w ≡ points.now.block.w) × (length numbers.old ≡ 8) }
+    ensures { Met (block_most (cache_of points.now.block) (references_of points.now.block) (live_rows points.now.lives) (listed list.now))
         points.now.ends points.now.ends.tasks numbers.old numbers.new }
 {
-    let w = points.block.w;
-    for k in 0..count {
+    let w = list.w;
+    for k in 0..list.count {
         let at = w * k;
-        meet_before(&rows[at..at + w], points, numbers);
+        meet_before(&list.rows[at..at + w], points, numbers);
     }
 }
 
@@ -119,7 +118,7 @@ fn meet_entering(reaching: &Held, points: &Points, numbers: &mut [u16])
     let set = points.block.before;
     for p in 0..points.block.blocks {
         if set & (1 << p) != 0 {
-            meet_rows(reaching.room_of(p), reaching.counts[p], points, numbers);
+            meet_rows(&reaching.of_block(p), points, numbers);
         }
     }
 }
@@ -156,15 +155,14 @@ fn meet_block(block: &Block, reaching: &Held, live: &Held, ends: &Ends, numbers:
         (rows_before (cache_of block.now) block.now.blocks block.now.before (rows_by reaching.now) block.now.number))
         ends.now ends.now.tasks numbers.old numbers.new }
 {
-    let w = block.w;
-    let count = live.counts[block.number];
-    let all = 32 * w;
+    let list = live.of_block(block.number);
+    let all = 32 * list.w;
     let mut lanes = [0u16; 1024];
-    lay_lanes(live.room_of(block.number), count, w, &mut lanes[0..all]);
+    lay_lanes(list.rows, list.count, list.w, &mut lanes[0..all]);
     let lives = Lives {
-        w,
+        w: list.w,
         lanes: &lanes[0..all],
-        count,
+        count: list.count,
     };
     meet_lanes(block, reaching, &lives, ends, numbers);
 }

@@ -1,11 +1,8 @@
 -- `meet_entering` meets its contract: after p turns the points are met for the rows of those of the first p blocks that are in the set. Assumes nothing.
-use mathlib.Core.Path.{sym, ap₂, ◌∙◌}
-use mathlib.Core.List.{List}
-use Prim.Native.Nat.{ℕ, ◌+◌, ◌<◌}
+use mathlib.Core.Path.{◌∙◌}
+use Prim.Native.Nat.{◌+◌, ◌<◌}
 use native.Mathlib.Omega.{arith}
-use lib.ListN.{get_or}
 use Rattle.cache.proofs.Members.{in_word, out_word}
-use Rattle.rows.specs.Rows.{rows_of}
 use Rattle.points.specs.Points.{rows_in}
 use Rattle.pairs.specs.Pairs.{live_rows, Met}
 use Rattle.block_rows.specs.BlockRows.{cache_of, references_of, rows_by}
@@ -30,7 +27,7 @@ loop-p-preserved c =
     = elim c.if-set-p-ne0.branch [
       | then-set-p-ne0 v ↦ rw v.numbers-is
           (met_in ends ends.tasks k ms ls block.before rs at.p (in_word 32 block.before at.p below v.if-set-p-ne0.true)
-          (ap₂ (λ (w : ℕ) (l : List ℕ). rows_of w (get_or reaching.counts.now at.p 0) l) (sym c.requires.0) v.room_of.ensures) at.invariant.1 v.meet_rows.ensures)
+          v.of_block.ensures.1 at.invariant.1 v.meet_rows.ensures)
       | else-set-p-ne0 v ↦ rw v.numbers-is
           (met_out ends ends.tasks k ms ls block.before rs at.p (out_word 32 block.before at.p below v.if-set-p-ne0.false) at.invariant.1)
     ] in
