@@ -17,6 +17,7 @@ ghost use Rattle.run_sheet.specs.Joined.{costliest_sheet_length};
 ghost use Rattle.costliest.specs.Costliest.{test18, asked_checks, two_check, two_checks, costliest_check, WrittenRun, CostliestAnswer};
 
 use area::AREA_LENGTH;
+use block_rows::row_list::RowList;
 use body::block_count;
 use cache::blocks::CacheShape;
 use cache::numbers::byte_count;
@@ -87,19 +88,13 @@ fn write_run(
     let end = block_count(task_body(file, j)) - 1;
     let part = 32 * w;
     let at = part * end;
-    let reached = own.reached;
-    let lived = own.lived;
     let ended = other.reached;
-    let found = find_rows(
-        body,
-        shape,
+    let ends = RowList {
         w,
-        first,
-        reached,
-        lived,
-        &second[at..at + part],
-        ended[end],
-    );
+        rows: &second[at..at + part],
+        count: ended[end],
+    };
+    let found = find_rows(body, shape, first, &own, &ends);
     let to = own.to;
     let on = own.on;
     let by = other.to;

@@ -52,47 +52,39 @@ end-room c =
 narrow : (c : After-block_count-end) → (length c.args.second.now ≡ area_length c.args.w) × (c.args.w ≤ 32)
 narrow c = (c.requires.6.rows.long, (c.requires.6.reaching refl).memory.width.narrow)
 
-pub task_body-body-requires : goal.task_body-body-requires
-task_body-body-requires c = (c.requires.0, (two (goal.at.task_body-body-requires c).Start).0)
-
-pub task_body-requires : goal.task_body-requires
-task_body-requires c = (c.requires.0, (two (goal.at.task_body-requires c).Start).1)
-
 pub block_count-end-requires : goal.block_count-end-requires
 block_count-end-requires c =
     let start = c in
     let s = start.args.file.now in
     body_kept s start.args.j (task-body s start.requires.0 start.args.j (two (goal.at.block_count-end-requires c).Start).1) c.task_body.ensures.0
 
-pub overflow_mul-part : goal.overflow_mul-part
-overflow_mul-part c = omega (arith, narrow c)
+pub slice_bounds-ends-end : goal.slice_bounds-ends-end
+slice_bounds-ends-end c = omega (arith, end-room (goal.at.slice_bounds-ends-end c).After-block_count-end)
 
-pub overflow_mul-at : goal.overflow_mul-at
-overflow_mul-at c = omega (arith, end-room c, narrow c)
-
-pub overflow_add-at : goal.overflow_add-at
-overflow_add-at c = omega (arith, end-room (goal.at.overflow_add-at c).After-block_count-end, narrow (goal.at.overflow_add-at c).After-block_count-end)
-
-pub offset_bounds-second-at : goal.offset_bounds-second-at
-offset_bounds-second-at c = omega (arith, end-room (goal.at.offset_bounds-second-at c).After-block_count-end, narrow (goal.at.offset_bounds-second-at c).After-block_count-end)
-
-pub slice_bounds-find_rows-end : goal.slice_bounds-find_rows-end
-slice_bounds-find_rows-end c = omega (arith, end-room (goal.at.slice_bounds-find_rows-end c).After-block_count-end)
+pub invariant_of-ends : goal.invariant_of-ends
+invariant_of-ends c =
+    let w = c.args.w in
+    let end = c.block_count-end.result - 1 in
+    let from = 32 * w * end in
+    let memory = (c.requires.6.reaching refl).memory in
+    record {
+      are = record {
+        width = memory.width;
+        long = ap length (cut_part (32 * w) from c.args.second.now)
+            ∙ length-take-le (32 * w) (drop from c.args.second.now)
+            (rw (length-drop from c.args.second.now) (omega (arith, end-room (goal.at.invariant_of-ends c).After-block_count-end)));
+        few = memory.few end (omega (arith, c.block_count-end.ensures.1, c.block_count-end.ensures.2));
+      };
+    }
 
 pub find_rows-found-requires : goal.find_rows-found-requires
 find_rows-found-requires c =
-    let e = c in
-    let start = c in
-    let s = start.args.file.now in
-    let w = start.args.w in
-    let from = 32 * w * (e.block_count-end.result - 1) in (
-      body_kept s start.args.i (task-body s start.requires.0 start.args.i (two (goal.at.find_rows-found-requires c).Start).0) c.task_body-body.ensures.0,
-      start.requires.2,
-      start.requires.5.rows.long,
-      (start.requires.5.reaching refl).memory,
-      (start.requires.5.live refl).memory,
-      ap length (cut_part (32 * w) from start.args.second.now) ∙ length-take-le (32 * w) (drop from start.args.second.now) (rw (length-drop from start.args.second.now) (omega (arith, end-room (goal.at.find_rows-found-requires c).After-block_count-end))),
-      (start.requires.6.reaching refl).memory.few (e.block_count-end.result - 1) (omega (arith, e.block_count-end.ensures.1, e.block_count-end.ensures.2)),
+    let s = c.args.file.now in (
+      body_kept s c.args.i (task-body s c.requires.0 c.args.i (two (goal.at.find_rows-found-requires c).Start).0) c.task_body-body.ensures.0,
+      c.requires.2,
+      c.requires.5.rows.long,
+      (c.requires.5.reaching refl).memory,
+      (c.requires.5.live refl).memory,
     )
 
 -- each number of the file is a byte
