@@ -1,5 +1,5 @@
 // The states of two tasks with their trails, and the point and the rows among them that make the pair number.
-ghost use Rattle.std.specs.Prelude.{◌≡◌, true, ◌<◌, length, take, drop};
+ghost use Rattle.std.specs.Prelude.{◌≡◌, true, ltb, ◌+◌, ◌*◌, ◌≤◌, ◌<◌, length, take, drop};
 ghost use Rattle.cache.specs.Shape.{shaped, Holds};
 ghost use Rattle.model.specs.Tasks.{task};
 ghost use Rattle.body.specs.Decode.{decode, task_of};
@@ -12,14 +12,18 @@ ghost use Rattle.project.specs.Bodies.{accepted};
 ghost use Rattle.project.specs.Tasks.{tasks_of, file_shape};
 ghost use Rattle.task_trails.specs.TaskTrails.{AreaTrails};
 ghost use Rattle.block_rows.specs.BlockRows.{listed};
+ghost use Rattle.trails.specs.Trails.{IsPlace};
 ghost use Rattle.search.specs.Search.{Searched};
+ghost use Rattle.costliest.specs.Parts.{BeforeIs, PreemptionIs};
 
 use block_rows::held::Held;
 use block_rows::row_list::RowList;
 use cache::blocks::CacheShape;
 use reader::task_body;
-use search::{Found, search};
+use run_sheet::Preemption;
+use search::{Found, Point, search};
 use task_trails::task_trails;
+use trails::write::Place;
 
 // The states of a task in a work area: whether some block has more than 32 of a kind, how many rows of each kind a block has, and their trails, `to`
 // those of reaching states and `on` those of live ones.
@@ -97,4 +101,33 @@ pub fn find_rows(
         counts: &own.lived,
     };
     search(body, shape, &reaching, &live, ends)
+}
+
+// The place of the reaching row before the block of a point; none where this is the first block of its path.
+pub fn place_before<'a>(point: Point, trails: &'a [u16]) -> Option<Place<'a>>
+    requires { IsPlace trails.now (32 * point.before + point.reaching) }
+    ensures { BeforeIs point.first trails.now (32 * point.before + point.reaching) result }
+{
+    if point.first {
+        return None;
+    }
+    Some(Place {
+        trails,
+        at: 32 * point.before + point.reaching,
+    })
+}
+
+// The preemption at the point that is found, by the task j along the path to a place; none where nothing is found.
+pub fn preemption_at<'a>(found: Found, j: u16, path: Place<'a>) -> Option<Preemption<'a>>
+    requires { found.point.done ≤ 16 }
+    ensures { PreemptionIs (ltb 0 found.cost) j found.point.done path.entry.trails.now path.entry.at result }
+{
+    if found.cost == 0 {
+        return None;
+    }
+    Some(Preemption {
+        by: j,
+        done: found.point.done as u16,
+        path,
+    })
 }

@@ -21,11 +21,12 @@ use block_rows::row_list::RowList;
 use body::block_count;
 use cache::blocks::CacheShape;
 use cache::numbers::byte_count;
-use find::{TaskTrails, find_rows, find_trails};
+use find::{TaskTrails, find_rows, find_trails, place_before, preemption_at};
 use project::answers::{Check, NO_TASK, Reading, Writing, refused};
 use project::head::head;
 use reader::{file_shape, read_bodies, task_body};
-use run_sheet::write_sheet;
+use run_sheet::{JoinedRun, write_sheet};
+use trails::write::Place;
 
 // The fewest numbers of a lent sheet (check 19). No sheet that is written has more: task, path length and 1,536 blocks at most, count, position,
 // references done, task, path length and 768 blocks at most.
@@ -95,24 +96,24 @@ fn write_run(
         count: ended[end],
     };
     let found = find_rows(body, shape, first, &own, &ends);
-    let to = own.to;
-    let on = own.on;
-    let by = other.to;
     let point = found.point;
-    let length = write_sheet(
-        0 < found.cost,
-        i as u16,
-        j as u16,
-        point.first,
-        &to,
-        32 * point.before + point.reaching,
-        point.done as u16,
-        &on,
-        32 * point.block + found.live,
-        &by,
-        32 * end + found.ending,
-        sheet,
-    );
+    let on = Place {
+        trails: &own.on,
+        at: 32 * point.block + found.live,
+    };
+    let by = Place {
+        trails: &other.to,
+        at: 32 * end + found.ending,
+    };
+    let before = place_before(point, &own.to);
+    let preemption = preemption_at(found, j as u16, by);
+    let run = JoinedRun {
+        task: i as u16,
+        before,
+        on,
+        preemption,
+    };
+    let length = write_sheet(&run, sheet);
     Writing::Written { length }
 }
 

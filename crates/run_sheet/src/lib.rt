@@ -19,11 +19,11 @@ pub struct Preemption<'a> {
 // The run of a task that trails join to: along the path to the place `before`, where the block of the preemption is not the first, and the way on from
 // the place `on`, which is one of that block; preempted in it, or not.
 #[derive(Clone, Copy)]
-pub struct JoinedRun<'a> {
+pub struct JoinedRun<'a, 'b, 'c> {
     pub task: u16,
     pub before: Option<Place<'a>>,
-    pub on: Place<'a>,
-    pub preemption: Option<Preemption<'a>>,
+    pub on: Place<'b>,
+    pub preemption: Option<Preemption<'c>>,
 }
 
 // How many blocks the path has before the block of the preemption.
