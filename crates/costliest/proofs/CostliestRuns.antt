@@ -41,7 +41,8 @@ use Rattle.trails.proofs.WriteLaws.{length_to, length_back}
 use Rattle.search.specs.declared.Found.{Found}
 use Rattle.search.proofs.FoundNumbers.{row_before, Comes, MakesNumber}
 use Rattle.costliest.specs.Costliest.{Costliest, WrittenRun}
-use Rattle.run_sheet.specs.Joined.{path_to, way_on, length_before, path_before, joined_run, costliest_sheet_length, HasTrail, HasTrailBefore}
+use Rattle.run_sheet.specs.Joined.{path_to, way_on, costliest_sheet_length, HasTrail}
+use Rattle.costliest.specs.Parts.{length_before, path_before, run_of_parts, HasTrailBefore}
 
 module _ (s : List ℕ) (bytes : Bytes s) (ok : accepted (reading_of s) ≡ true) (w : ℕ) (room : cache_blocks s ≤ w) (i j : ℕ) (hi : i < task_count s) (hj : j < task_count s) (ne : j ≢ i) where
   abbrev ts : List Task
@@ -244,7 +245,7 @@ module _ (s : List ℕ) (bytes : Bytes s) (ok : accepted (reading_of s) ≡ true
     -- the run that is written, preempted where something is found
     pub joined-run : (preempted : Bool) → preempted ≡ ltb 0 x.cost
         → (run : DisturbedRun ts) × Costliest s i j run
-        × (sheet_run ts run ≡ joined_run preempted i j x.point.first to (32 * x.point.before + x.point.reaching) x.point.done on (32 * x.point.block + x.live) by (32 * end (task ts j) + x.ending))
+        × (sheet_run ts run ≡ run_of_parts preempted i j x.point.first to (32 * x.point.before + x.point.reaching) x.point.done on (32 * x.point.block + x.live) by (32 * end (task ts j) + x.ending))
     joined-run true e =
         let some = makes.some.0 (ltb-true 0 x.cost (sym e)) in
         let free = makes.allowed some in (
@@ -261,7 +262,7 @@ module _ (s : List ℕ) (bytes : Bytes s) (ok : accepted (reading_of s) ≡ true
     )
 
     -- the sheet is not longer than 2,311 numbers
-    joined-few : (preempted : Bool) → length (sheet_numbers (joined_run preempted i j x.point.first to at x.point.done on from by last)) ≤ costliest_sheet_length
+    joined-few : (preempted : Bool) → length (sheet_numbers (run_of_parts preempted i j x.point.first to at x.point.done on from by last)) ≤ costliest_sheet_length
     joined-few true = omega (
       arith,
       length-append (path_before x.point.first to at ++ way_on on from) (1 ∷ length_before x.point.first to at ∷ x.point.done ∷ j ∷ (path_numbers (path_to by last) ++ [])),
@@ -287,7 +288,7 @@ module _ (s : List ℕ) (bytes : Bytes s) (ok : accepted (reading_of s) ≡ true
     -- the run of these rows, where the end row has the place `final`
     abbrev pub found_run : Bool → ℕ → SheetRun
     found_run preempted final =
-        joined_run preempted i j x.point.first to (32 * x.point.before + x.point.reaching) x.point.done on (32 * x.point.block + x.live) by final
+        run_of_parts preempted i j x.point.first to (32 * x.point.before + x.point.reaching) x.point.done on (32 * x.point.block + x.live) by final
 
     -- the sheet of the run is what was written
     pub written_run : (preempted : Bool) → preempted ≡ ltb 0 x.cost → (final : ℕ) → final ≡ 32 * end (task ts j) + x.ending → {answer : ℕ} {old new : List ℕ}

@@ -3,3 +3,4 @@ pub mod CostliestVerdicts
 pub mod FoundRows
 pub mod FindLaws
 pub mod Answers
+pub mod PartsLaws

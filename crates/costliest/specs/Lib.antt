@@ -1,1 +1,2 @@
 pub mod Costliest
+pub mod Parts

@@ -17,14 +17,16 @@ ghost use Rattle.run_sheet.specs.Joined.{costliest_sheet_length};
 ghost use Rattle.costliest.specs.Costliest.{test18, asked_checks, two_check, two_checks, costliest_check, WrittenRun, CostliestAnswer};
 
 use area::AREA_LENGTH;
+use block_rows::row_list::RowList;
 use body::block_count;
 use cache::blocks::CacheShape;
 use cache::numbers::byte_count;
-use find::{TaskTrails, find_rows, find_trails};
+use find::{TaskTrails, find_rows, find_trails, place_before, preemption_at};
 use project::answers::{Check, Refusal};
 use project::head::head;
 use reader::{file_shape, read_bodies, task_body};
-use run_sheet::write_sheet;
+use run_sheet::{JoinedRun, write_sheet};
+use trails::write::Place;
 
 // The fewest numbers of a lent sheet (check 19). No sheet that is written has more: task, path length and 1,536 blocks at most, count, position,
 // references done, task, path length and 768 blocks at most.
@@ -87,37 +89,31 @@ fn write_run(
     let end = block_count(task_body(file, j)) - 1;
     let part = 32 * w;
     let at = part * end;
-    let reached = own.reached;
-    let lived = own.lived;
     let ended = other.reached;
-    let found = find_rows(
-        body,
-        shape,
+    let ends = RowList {
         w,
-        first,
-        reached,
-        lived,
-        &second[at..at + part],
-        ended[end],
-    );
-    let to = own.to;
-    let on = own.on;
-    let by = other.to;
+        rows: &second[at..at + part],
+        count: ended[end],
+    };
+    let found = find_rows(body, shape, first, &own, &ends);
     let point = found.point;
-    Ok(write_sheet(
-        0 < found.cost,
-        i as u16,
-        j as u16,
-        point.first,
-        &to,
-        32 * point.before + point.reaching,
-        point.done as u16,
-        &on,
-        32 * point.block + found.live,
-        &by,
-        32 * end + found.ending,
-        sheet,
-    ))
+    let on = Place {
+        trails: &own.on,
+        at: 32 * point.block + found.live,
+    };
+    let by = Place {
+        trails: &other.to,
+        at: 32 * end + found.ending,
+    };
+    let before = place_before(point, &own.to);
+    let preemption = preemption_at(found, j as u16, by);
+    let run = JoinedRun {
+        task: i as u16,
+        before,
+        on,
+        preemption,
+    };
+    Ok(write_sheet(&run, sheet))
 }
 
 // The answer for an accepted file, two of its tasks, and a sheet that is long enough: check 11 of the two, and then the run. What the areas hold

@@ -21,7 +21,7 @@ use Rattle.gather.specs.Gathered.{GatheredRows}
 use Rattle.graphs.specs.TaskRows.{KindRows}
 use Rattle.area.proofs.Areas.{few-rows}
 use Rattle.row_sets.specs.Sets.{Joined}
-use Rattle.pairs.specs.Pairs.{ends_of, one_of, ends_length}
+use Rattle.pairs.specs.Ends.{ends_of, one_of, ends_length}
 use Rattle.file_pairs.specs.Found.{Few, AllEnds, TaskEnds, OneStored, EndsFound, NoOthers}
 
 -- ---- rows that were copied

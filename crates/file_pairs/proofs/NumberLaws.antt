@@ -19,10 +19,11 @@ use Rattle.graphs.specs.TaskRows.{test11, AreaRows}
 use Rattle.graphs.proofs.Gathered.{held-sorted}
 use Rattle.project.proofs.Accepted.{or_false_left, or_false_right}
 use Rattle.area.proofs.Areas.{few-rows}
-use Rattle.pairs.specs.Pairs.{ends_of, Met}
+use Rattle.pairs.specs.Pairs.{end_rows, Met}
+use Rattle.pairs.specs.declared.ends.Ends.{Ends}
 use Rattle.task_pairs.specs.TaskPairs.{task_most}
 use Rattle.task_pairs.proofs.PairNumbers.{pair-number}
-use Rattle.file_pairs.specs.Found.{Few, EndsFound, NumbersFound}
+use Rattle.file_pairs.specs.Found.{Few, AllFound, NumbersFound}
 
 gathered-memory : {w : ℕ} (all : ℕ → List (List ℕ)) {rows counts : List ℕ} → Width w → length rows ≡ kind_length w → length counts ≡ 24 → too_many all 24 ≡ false
     → ((b : ℕ) → b < 24 → GatheredRows w all rows counts b) → Memory w rows counts
@@ -57,10 +58,10 @@ module _ (k : Cache) (t : Task) {area reached lived : List ℕ} {full : Bool} (h
           rw second
           (gathered-memory (living k t) width h.rows.live_long h.rows.live_many (or_false_right (too_many (reaching k t) 24) (too_many (living k t) 24) none) (h.rows.lived few))
 
-      pub numbers-few : (ts : List Task) (tasks : ℕ) {ends counts mixed old new : List ℕ} → InBounds t → length old ≡ 8 → EndsFound k ts tasks ends counts mixed
-          → Met (task_most k t (held_rows k.width rows reached) (held_rows k.width live lived) (length t) 0) k.width ends counts tasks old new
-          → NumbersFound k ts tasks t old new false
-      numbers-few ts tasks {ends} {counts} {mixed} {old} {new} bounds long found met =
+      pub numbers-few : (ts : List Task) (ends : Ends) → ends.w ≡ k.width → {old new : List ℕ} → InBounds t → length old ≡ 8 → AllFound k ts ends
+          → Met (task_most k t (held_rows k.width rows reached) (held_rows k.width live lived) (length t) 0) ends ends.tasks old new
+          → NumbersFound k ts ends.tasks t old new false
+      numbers-few ts ends wide {old} {new} bounds long found met =
           record {
             long = met.long ∙ long;
             answer = sym none;
@@ -69,10 +70,10 @@ module _ (k : Cache) (t : Task) {area reached lived : List ℕ} {full : Bool} (h
             refused = λ q. absurd (true≢false (sym q));
           }
         where
-          number : (j : ℕ) → j < tasks → Few k (task ts j)
-              → task_most k t (held_rows k.width rows reached) (held_rows k.width live lived) (length t) 0 (ends_of k.width ends counts j) ≡ pair_number k t (task ts j)
+          number : (j : ℕ) → j < ends.tasks → Few k (task ts j)
+              → task_most k t (held_rows k.width rows reached) (held_rows k.width live lived) (length t) 0 (end_rows ends j) ≡ pair_number k t (task ts j)
           number j l f =
-              pair-number k t (task ts j) (held_rows k.width rows reached) (held_rows k.width live lived) (ends_of k.width ends counts j) bounds.few
+              pair-number k t (task ts j) (held_rows k.width rows reached) (held_rows k.width live lived) (end_rows ends j) bounds.few
               (blocks-real (length t) t bounds.each)
               (λ b i. rw first (held-sorted b (h.rows.reached few b (omega (arith, bounds.few))))) (λ b i. rw second (held-sorted b (h.rows.lived few b (omega (arith, bounds.few)))))
-              (found.found j l f)
+              (rw wide (found.found j l f))

@@ -7,7 +7,8 @@ use Rattle.rows.specs.Rows.{rows_of, part_of, kind_length}
 use Rattle.gather.specs.Graph.{too_many}
 use Rattle.graphs.specs.TaskRows.{test11}
 use Rattle.row_sets.specs.Sets.{Joined}
-use Rattle.pairs.specs.Pairs.{ends_of, one_of, EndRows}
+use Rattle.pairs.specs.Ends.{ends_of, one_of, EndRows}
+use Rattle.pairs.specs.declared.ends.Ends.{Ends}
 
 -- no block of the task has more than 32 reaching states
 abbrev pub Few : Cache → Task → Type 0
@@ -36,6 +37,10 @@ pub record OneStored (w j count : ℕ) (old new : List ℕ) (mixed : ℕ) : Type
 pub record EndsFound (k : Cache) (ts : List Task) (tasks : ℕ) (ends counts mixed : List ℕ) : Type 0 where
   pub room : EndRows k.width ends counts mixed tasks
   pub found : (j : ℕ) → j < tasks → Few k (task ts j) → AllEnds k (task ts j) (ends_of k.width ends counts j)
+
+-- the same of end rows that are lent as one thing
+abbrev pub AllFound : Cache → List Task → Ends → Type 0
+AllFound k ts ends = EndsFound k ts ends.tasks ends.rows.now ends.counts.now ends.mixed.now
 
 -- and none of any other
 abbrev pub NoOthers : Cache → List Task → ℕ → List ℕ → Type 0

@@ -8,7 +8,7 @@ ghost use Rattle.project.specs.File.{task_count};
 ghost use Rattle.project.specs.Reading.{reading_of};
 ghost use Rattle.project.specs.Bodies.{accepted};
 ghost use Rattle.project.specs.Tasks.{tasks_of, file_shape};
-ghost use Rattle.pairs.specs.Pairs.{ends_length};
+ghost use Rattle.pairs.specs.Ends.{ends_length};
 ghost use Rattle.file_pairs.specs.Found.{TaskEnds, OneStored, EndsFound, NoOthers};
 
 use body::block_count;

@@ -2,19 +2,20 @@
 ghost use Rattle.std.specs.Prelude.{◌≡◌, Ok, true, List, length, replicate};
 ghost use Rattle.cache.specs.Shape.{shaped, Holds};
 ghost use Rattle.model.specs.Tasks.{Task};
-ghost use Rattle.rows.specs.Rows.{Width, area_length};
+ghost use Rattle.rows.specs.Rows.{area_length};
 ghost use Rattle.body.specs.Decode.{decode, task_of};
 ghost use Rattle.body.specs.Walk.{kept_of};
 ghost use Rattle.project.specs.File.{task_count};
 ghost use Rattle.project.specs.Reading.{reading_of};
 ghost use Rattle.project.specs.Bodies.{accepted};
 ghost use Rattle.project.specs.Tasks.{tasks_of, file_shape};
-ghost use Rattle.pairs.specs.Pairs.{EndRows};
 ghost use Rattle.file_pairs.specs.FilePairs.{first_full, table_of};
-ghost use Rattle.file_pairs.specs.Found.{EndsFound, NumbersFound};
+ghost use Rattle.file_pairs.specs.Found.{AllFound, NumbersFound};
 
+use block_rows::held::Held;
 use cache::blocks::CacheShape;
 use graphs::task_rows::task_rows;
+use pairs::ends::Ends;
 use project::answers::{Check, Refusal};
 use reader::task_body;
 use reader::tasks::task_byte;
@@ -25,40 +26,32 @@ use task_pairs::meet_task;
 fn task_numbers(
     body: &[u8],
     shape: CacheShape,
-    w: usize,
     area: &mut [u16],
-    ends: &[u16],
-    counts: &[usize],
-    mixed: &[u32],
-    tasks: usize,
+    ends: &Ends,
     numbers: &mut [u16],
 ) -> bool
-    requires { (kept_of (decode body.now) ≡ true) × Holds w shape × Width w × (length area.old ≡ area_length w)
-        × EndRows w ends.now counts.now mixed.now tasks × (length numbers.old ≡ 8) }
-    ensures { (length area.new ≡ area_length w) × ((ts : List Task)
-        → EndsFound (shaped w shape) ts tasks ends.now counts.now mixed.now
-        → NumbersFound (shaped w shape) ts tasks (task_of (decode body.now)) numbers.old numbers.new result) }
+    requires { (kept_of (decode body.now) ≡ true) × Holds ends.now.w shape × (length area.old ≡ area_length ends.now.w) × (length numbers.old ≡ 8) }
+    ensures { (length area.new ≡ area_length ends.now.w) × ((ts : List Task) → AllFound (shaped ends.now.w shape) ts ends.now
+        → NumbersFound (shaped ends.now.w shape) ts ends.now.tasks (task_of (decode body.now)) numbers.old numbers.new result) }
 {
+    let w = ends.w;
     let mut reached = [0usize; 24];
     let mut lived = [0usize; 24];
     if task_rows(body, shape, w, area, &mut reached, &mut lived) {
         return true;
     }
     let kind = 24 * (32 * w);
-    meet_task(
-        body,
-        shape,
+    let reaching = Held {
         w,
-        &area[0..kind],
-        &reached,
-        &area[kind..kind + kind],
-        &lived,
-        ends,
-        counts,
-        mixed,
-        tasks,
-        numbers,
-    );
+        rows: &area[0..kind],
+        counts: &reached,
+    };
+    let live = Held {
+        w,
+        rows: &area[kind..kind + kind],
+        counts: &lived,
+    };
+    meet_task(body, shape, &reaching, &live, ends, numbers);
     false
 }
 
@@ -67,31 +60,23 @@ fn task_numbers(
 pub fn find_numbers(
     file: &[u8],
     shape: CacheShape,
-    w: usize,
-    tasks: usize,
     area: &mut [u16],
-    ends: &[u16],
-    counts: &[usize],
-    mixed: &[u32],
+    ends: &Ends,
     numbers: &mut [u16],
 ) -> Result<(), Refusal>
-    requires { (accepted (reading_of file.now) ≡ true) × (shape ≡ file_shape file.now) × Holds w shape × Width w × (tasks ≡ task_count file.now)
-        × (length area.old ≡ area_length w) × EndsFound (shaped w shape) (tasks_of file.now) tasks ends.now counts.now mixed.now
+    requires { (accepted (reading_of file.now) ≡ true) × (shape ≡ file_shape file.now) × Holds ends.now.w shape × (ends.now.tasks ≡ task_count file.now)
+        × (length area.old ≡ area_length ends.now.w) × AllFound (shaped ends.now.w shape) (tasks_of file.now) ends.now
         × (numbers.old ≡ replicate 64 0) }
-    ensures { (length area.new ≡ area_length w) × (result ≡ first_full (shaped w shape) 0 (tasks_of file.now))
+    ensures { (length area.new ≡ area_length ends.now.w) × (result ≡ first_full (shaped ends.now.w shape) 0 (tasks_of file.now))
         × (result ≡ Ok tt → numbers.new ≡ table_of file.now) }
 {
-    for i in 0..tasks {
+    for i in 0..ends.tasks {
         numbers[9 * i] = 32;
         if task_numbers(
             task_body(file, i),
             shape,
-            w,
             area,
             ends,
-            counts,
-            mixed,
-            tasks,
             &mut numbers[8 * i..8 * i + 8],
         ) {
             return Err(Refusal {

@@ -1,8 +1,7 @@
 // What the references of a block do to a row, made once for each block of a body.
-ghost use Rattle.std.specs.Prelude.{◌≡◌, true, ◌*◌, ◌<◌, length, take};
+ghost use Rattle.std.specs.Prelude.{◌≡◌, ◌*◌, ◌<◌, length, take};
 ghost use Rattle.cache.specs.Shape.{shaped, Holds};
 ghost use Rattle.body.specs.Decode.{decode, task_of};
-ghost use Rattle.body.specs.Walk.{kept_of, blocks_of, starts_of};
 ghost use Rattle.rows.specs.Rows.{Width};
 ghost use Rattle.rows.specs.Append.{put};
 ghost use Rattle.graphs.specs.Graphs.{first_rows, last_rows, no_rows};
@@ -21,24 +20,21 @@ fn keep_row(cells: [u16; 32], w: usize, b: usize, rows: &mut [u16])
     copy_row(&cells[0..w], &mut rows[at..at + w]);
 }
 
-// The first and the last references of each block of a body, which was walked.
+// The first and the last references of each block of a body.
 pub fn prepare(
-    body: &[u8],
-    walk: BodyWalk,
+    walk: &BodyWalk<'_>,
     shape: CacheShape,
     w: usize,
     first: &mut [u16],
     last: &mut [u16],
 )
-    requires { (kept_of (decode body.now) ≡ true) × (walk.blocks ≡ blocks_of (decode body.now)) × (walk.starts ≡ starts_of (decode body.now))
-        × Holds w shape × Width w × (first.old ≡ no_rows w) × (last.old ≡ no_rows w) }
-    ensures { (first.new ≡ first_rows (shaped w shape) (task_of (decode body.now)))
-        × (last.new ≡ last_rows (shaped w shape) (task_of (decode body.now))) }
+    requires { Holds w shape × Width w × (first.old ≡ no_rows w) × (last.old ≡ no_rows w) }
+    ensures { (first.new ≡ first_rows (shaped w shape) (task_of (decode walk.now.body.now)))
+        × (last.new ≡ last_rows (shaped w shape) (task_of (decode walk.now.body.now))) }
 {
-    let starts = walk.starts;
+    // By number: the rows of a block are written at its number.
     for b in 0..walk.blocks {
-        let at = starts[b];
-        let rows = BlockReferences::gather(references(body, at), shape);
+        let rows = BlockReferences::gather(references(walk.body, walk.starts[b]), shape);
         keep_row(rows.first.cells(), w, b, first);
         keep_row(rows.last.cells(), w, b, last);
     }

@@ -13,7 +13,7 @@ ghost use Rattle.graphs.specs.TaskRows.{KindRows, AreaRows, BothGathered};
 use crate::prepare::prepare;
 use body::jumps::jumps;
 use body::predecessors::predecessors;
-use body::walk;
+use body::kept_walk;
 use cache::blocks::CacheShape;
 use cache::row::Row;
 use gather::gather::{BlockGraph, gather};
@@ -113,11 +113,11 @@ pub fn graphs(
         × (first.new ≡ first_rows (shaped w shape) (task_of (decode body.now)))
         × (last.new ≡ last_rows (shaped w shape) (task_of (decode body.now))) }
 {
-    let walked = walk(body);
-    prepare(body, walked, shape, w, first, last);
+    let walked = kept_walk(body);
+    prepare(&walked, shape, w, first, last);
     Jumps {
         blocks: walked.blocks,
-        sets: jumps(body, walked),
+        sets: jumps(&walked),
     }
 }
 

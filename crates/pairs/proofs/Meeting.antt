@@ -3,48 +3,17 @@
 use mathlib.Core.Path.{◌≡◌, refl, sym, ap, ◌∙◌}
 use mathlib.Core.Bool.{Bool, true, false}
 use mathlib.Core.List.{List, [], ◌∷◌}
-use Prim.Native.Nat.{ℕ, ◌+◌, ◌-◌, ◌*◌, ◌^◌, ◌≤◌, ◌<◌, max}
+use Prim.Native.Nat.{ℕ, ◌+◌, ◌^◌, ◌≤◌, ◌<◌, max}
 use native.Mathlib.Nat.{le_trans}
-use native.Mathlib.Numerals.{add-one}
 use native.Mathlib.Omega.{arith}
 use lib.Dec.{eqb}
-use lib.ListN.{length, get_or, set, take, drop, length-set, drop_of_length-le}
-use lib.Seq.{drop-cons, get_or-set_same, get_or-set_other}
+use lib.ListN.{length, get_or, set, length-set}
+use lib.Seq.{get_or-set_same, get_or-set_other}
 use lib.Count.{ones, ones-le}
 use borrow.Author.Tests.{eqb-true, eqb-false}
 use Rattle.cache.proofs.Bits.{and_ones}
-use Rattle.model.specs.Lists.{best}
-use Rattle.rows.specs.Rows.{rows_of}
-use Rattle.rows.proofs.Parts.{row_within, part_wide}
-use Rattle.gather.proofs.Handing.{held_at}
-use Rattle.row_sets.specs.Sets.{Joined}
-use Rattle.pairs.specs.Pairs.{most_common, sets_most, ends_of, one_of, EndRows, Met}
-
--- ---- the most that one of some sets counts
-
-module _ (f : ℕ → ℕ) (vs : List ℕ) where
-  -- a turn: x is what the set numbered k counts, and m becomes the larger
-  pub most_turn : (k m : ℕ) {x new : ℕ} → k < length vs → x ≡ f (get_or vs k 0) → new ≡ max m x → max m (best f (drop k vs)) ≡ best f vs
-      → max new (best f (drop (k + 1) vs)) ≡ best f vs
-  most_turn k m {x} {new} h e q i =
-      let n : best f (drop k vs) ≡ max x (best f (drop (k + 1) vs)) = rw (drop-cons vs k 0 h, add-one k, e) in
-      omega arith
-
-  pub most-end : (k m : ℕ) → length vs ≤ k → max m (best f (drop k vs)) ≡ best f vs → m ≡ best f vs
-  most-end k m h i = let n : best f (drop k vs) ≡ 0 = ap (best f) (drop_of_length-le vs {i = k} h) in omega arith
-
--- the most over the useful sets, of which those from k on are left: a turn raises m by the set numbered k
-module _ (us vs : List ℕ) (number : ℕ) where
-  pub sets_turn : (k m : ℕ) {new : ℕ} → k < length us → new ≡ max m (most_common (get_or us k 0) vs) → max m (sets_most (drop k us) vs) ≡ max number (sets_most us vs)
-      → max new (sets_most (drop (k + 1) us) vs) ≡ max number (sets_most us vs)
-  sets_turn k m {new} h q i =
-      let n : sets_most (drop k us) vs ≡ max (most_common (get_or us k 0) vs) (sets_most (drop (k + 1) us) vs) = rw (drop-cons us k 0 h, add-one k) in
-      omega (arith, n, q, i)
-
-  pub sets_end : (k m : ℕ) → length us ≤ k → max m (sets_most (drop k us) vs) ≡ max number (sets_most us vs) → m ≡ max number (sets_most us vs)
-  sets_end k m h i =
-      let n : sets_most (drop k us) vs ≡ 0 = ap (λ (x : List ℕ). sets_most x vs) (drop_of_length-le us {i = k} h) in
-      omega (arith, n, i)
+use Rattle.pairs.specs.Pairs.{most_common, end_rows, Met}
+use Rattle.pairs.specs.declared.ends.Ends.{Ends}
 
 pub most_ones : (u : ℕ) (vs : List ℕ) → u < 2 ^ 32 → most_common u vs ≤ ones u
 most_ones u [] h = omega arith
@@ -53,41 +22,19 @@ most_ones u (v ∷ vs) h = omega (arith, and_ones 32 u v h, most_ones u vs h)
 pub most-few : (u : ℕ) (vs : List ℕ) → u < 2 ^ 32 → most_common u vs ≤ 32
 most-few u vs h = le_trans (most_ones u vs h) (ones-le 32 u h)
 
--- ---- the end rows of task j, and the one row for them, were lent as parts
-
-module _ (w : ℕ) (ends counts mixed : List ℕ) (tasks j : ℕ) (is : EndRows w ends counts mixed tasks) (l : j < tasks) where
-  abbrev from : ℕ
-  from = 8 * (32 * w) + w * j
-
-  lent_one : take (from + w - from) (drop from ends) ≡ one_of w ends j
-  lent_one =
-      let s : from + w - from ≡ w = omega arith in
-      ap (λ (n : ℕ). take n (drop from ends)) s
-
-  pub lent_joined : Joined w (ends_of w ends counts j) (take (from + w - from) (drop from ends)) (get_or mixed j 0)
-  lent_joined = rw lent_one (is.joined j l)
-
-  pub lent_ends : length (take (32 * w * j + 32 * w - 32 * w * j) (drop (32 * w * j) ends)) ≡ 32 * w
-  lent_ends = part_wide (32 * w * j) (32 * w) ends (omega (arith, row_within (32 * w) j 8 (omega (arith, is.inside)), is.long))
-
 -- ---- the numbers
 
-module _ (w : ℕ) (ends counts : List ℕ) where
-  -- the end rows of task j were lent as a part
-  pub lent_most : (most : List (List ℕ) → ℕ) (j n : ℕ) {x : ℕ}
-      → x ≡ max n (most (rows_of w (get_or counts j 0) (take (32 * w * j + 32 * w - 32 * w * j) (drop (32 * w * j) ends)))) → x ≡ max n (most (ends_of w ends counts j))
-  lent_most most j n e = e ∙ ap (λ (fs : List (List ℕ)). max n (most fs)) (held_at w ends counts j)
-
+module _ (ends : Ends) where
   -- none is met yet: by no task, and at no point
-  pub met_start : (most : List (List ℕ) → ℕ) (old : List ℕ) → Met most w ends counts 0 old old
+  pub met_start : (most : List (List ℕ) → ℕ) (old : List ℕ) → Met most ends 0 old old
   met_start most old = record { long = refl; each = λ j h. absurd (omega arith); rest = λ j h. refl }
 
-  pub met_none : (most : List (List ℕ) → ℕ) (tasks : ℕ) (old : List ℕ) → ((fs : List (List ℕ)) → most fs ≡ 0) → Met most w ends counts tasks old old
-  met_none most tasks old z = record { long = refl; each = λ j h. omega (arith, z (ends_of w ends counts j)); rest = λ j h. refl }
+  pub met_none : (most : List (List ℕ) → ℕ) (tasks : ℕ) (old : List ℕ) → ((fs : List (List ℕ)) → most fs ≡ 0) → Met most ends tasks old old
+  met_none most tasks old z = record { long = refl; each = λ j h. omega (arith, z (end_rows ends j)); rest = λ j h. refl }
 
   -- one task more: the number at j becomes the larger, and the others stay
-  pub met_turn : (most : List (List ℕ) → ℕ) (j : ℕ) (old now : List ℕ) {x : ℕ} → Met most w ends counts j old now → j < length now
-      → x ≡ max (get_or now j 0) (most (ends_of w ends counts j)) → Met most w ends counts (j + 1) old (set now j x)
+  pub met_turn : (most : List (List ℕ) → ℕ) (j : ℕ) (old now : List ℕ) {x : ℕ} → Met most ends j old now → j < length now
+      → x ≡ max (get_or now j 0) (most (end_rows ends j)) → Met most ends (j + 1) old (set now j x)
   met_turn most j old now {x} so_far l is =
       record {
         long = length-set now j x ∙ so_far.long;
@@ -95,24 +42,24 @@ module _ (w : ℕ) (ends counts : List ℕ) where
         rest = λ i h. get_or-set_other now j i x 0 (λ e. absurd (omega arith)) ∙ so_far.rest i (omega arith);
       }
     where
-      go : (i : ℕ) → i < j + 1 → (b : Bool) → eqb i j ≡ b → get_or (set now j x) i 0 ≡ max (get_or old i 0) (most (ends_of w ends counts i))
+      go : (i : ℕ) → i < j + 1 → (b : Bool) → eqb i j ≡ b → get_or (set now j x) i 0 ≡ max (get_or old i 0) (most (end_rows ends i))
       go i h true q = rw (eqb-true i j q) (omega (arith, get_or-set_same now j x 0 l, so_far.rest j (omega arith)))
       go i h false q =
           let d = eqb-false i j q in
           get_or-set_other now j i x 0 d ∙ so_far.each i (omega arith)
 
   -- the same most, written otherwise
-  pub met_same : {a b : List (List ℕ) → ℕ} (tasks : ℕ) {n n' : List ℕ} → ((fs : List (List ℕ)) → b fs ≡ a fs) → Met a w ends counts tasks n n' → Met b w ends counts tasks n n'
+  pub met_same : {a b : List (List ℕ) → ℕ} (tasks : ℕ) {n n' : List ℕ} → ((fs : List (List ℕ)) → b fs ≡ a fs) → Met a ends tasks n n' → Met b ends tasks n n'
   met_same tasks {n} e p =
-      record { long = p.long; each = λ j h. p.each j h ∙ ap (max (get_or n j 0)) (sym (e (ends_of w ends counts j))); rest = p.rest }
+      record { long = p.long; each = λ j h. p.each j h ∙ ap (max (get_or n j 0)) (sym (e (end_rows ends j))); rest = p.rest }
 
   module _ (tasks : ℕ) {n n' n'' : List ℕ} where
     -- points after points
-    pub met_more : {a b : List (List ℕ) → ℕ} (all : List (List ℕ) → ℕ) → ((fs : List (List ℕ)) → all fs ≡ max (a fs) (b fs)) → Met a w ends counts tasks n n'
-        → Met b w ends counts tasks n' n'' → Met all w ends counts tasks n n''
+    pub met_more : {a b : List (List ℕ) → ℕ} (all : List (List ℕ) → ℕ) → ((fs : List (List ℕ)) → all fs ≡ max (a fs) (b fs)) → Met a ends tasks n n'
+        → Met b ends tasks n' n'' → Met all ends tasks n n''
     met_more all e p q =
         record {
           long = q.long ∙ p.long;
-          each = λ j h. omega (arith, p.each j h, q.each j h, e (ends_of w ends counts j));
+          each = λ j h. omega (arith, p.each j h, q.each j h, e (end_rows ends j));
           rest = λ j h. q.rest j h ∙ p.rest j h;
         }

@@ -19,7 +19,8 @@ use Rattle.model.proofs.Membership.{or_left, or_right}
 use Rattle.rows.specs.Overlay.{overlay}
 use Rattle.rows.proofs.Parts.{lent_first}
 use Rattle.row_sets.specs.Sets.{useful_set, kept_set, useful_sets, replaced_sets, some_replaces}
-use Rattle.pairs.specs.Pairs.{UsefulSets, most_common, sets_most, largest_of, NoMoreThanAll, point_most, useful_most, some_below, may_raise_some, ends_of, Met}
+use Rattle.pairs.specs.Pairs.{UsefulSets, most_common, sets_most, largest_of, NoMoreThanAll, point_most, useful_most, some_below, may_raise_some, end_rows, Met}
+use Rattle.pairs.specs.declared.ends.Ends.{Ends}
 use Rattle.pairs.proofs.Bounds.{all-bounds, stays_replaced}
 use Rattle.pairs.proofs.Meeting.{most_ones}
 
@@ -100,13 +101,13 @@ module _ (test : ℕ → Bool) where
       go false q = q
 
 -- where none may be raised, the numbers are met as they are
-pub met_as_is : (row rest ends counts numbers : List ℕ) (ls : List (List ℕ)) (tasks : ℕ) {held : ℕ}
-    → held ≡ kept_set row rest → may_raise_some row held ends counts numbers tasks ≡ false → Met (point_most row rest ls) (length row) ends counts tasks numbers numbers
-met_as_is row rest ends counts numbers ls tasks {held} is e =
+pub met_as_is : (row rest : List ℕ) (ends : Ends) (numbers : List ℕ) (ls : List (List ℕ)) (tasks : ℕ) {held : ℕ}
+    → held ≡ kept_set row rest → may_raise_some row held ends numbers tasks ≡ false → Met (point_most row rest ls) ends tasks numbers numbers
+met_as_is row rest ends numbers ls tasks {held} is e =
     record {
       long = refl;
       each = λ j h.
-          let fs = ends_of (length row) ends counts j in
+          let fs = end_rows ends j in
           let all = bits (length row) (some_replaces fs row) in
           stays_replaced row rest ls fs (get_or numbers j 0) is (ltb-false (get_or numbers j 0) (ones (bit_and held all)) (some-not _ tasks j e h)) refl refl;
       rest = λ j h. refl;

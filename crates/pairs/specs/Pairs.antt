@@ -1,14 +1,16 @@
 -- Document 01, "Paths and cache", and document 02, Points 5 and 6: the most that useful and replaced sets have in common at a point, and the numbers of
 -- a task that are met by the end rows of all tasks. Definitions only.
-use Rattle.std.specs.Prelude.{◌≡◌, Bool, false, ◌||◌, List, ℕ, zero, suc, ◌+◌, ◌*◌, ◌≤◌, ◌<◌, max, ltb, length, get_or, take, drop}
+use Rattle.std.specs.Prelude.{◌≡◌, Bool, false, ◌||◌, List, ℕ, zero, suc, ◌≤◌, ◌<◌, max, ltb, length, get_or}
 use Rattle.std.specs.Int.Bits.{bit_and}
 use Rattle.std.specs.Int.Count.{ones}
 use Rattle.cache.specs.Sets.{bits}
 use Rattle.model.specs.Lists.{best}
 use Rattle.rows.specs.Overlay.{overlay}
-use Rattle.rows.specs.Rows.{Width}
-use Rattle.gather.specs.Memory.{held_rows}
-use Rattle.row_sets.specs.Sets.{useful_set, useful_sets, kept_set, replaced_sets, some_replaces, Joined}
+use Rattle.row_sets.specs.Lanes.{lane_rows}
+use Rattle.row_sets.specs.Sets.{useful_set, useful_sets, kept_set, replaced_sets, some_replaces}
+use Rattle.pairs.specs.Ends.{ends_of}
+use Rattle.pairs.specs.declared.ends.Ends.{Ends}
+use Rattle.pairs.specs.declared.lives.Lives.{Lives}
 
 -- these are the useful sets of the row at a point with some live rows, and `held` are the cache blocks that can be useful there
 pub record UsefulSets (r : List ℕ) (held : ℕ) (us : List ℕ) : Type 0 where
@@ -42,29 +44,6 @@ point_most r rest ls fs = best (λ (l : List ℕ). most_common (useful_set r (ov
 abbrev pub useful_most : List ℕ → List ℕ → List (List ℕ) → ℕ
 useful_most r us fs = sets_most us (replaced_sets r fs)
 
--- the end rows of task j in one list for all tasks: they stand from 32 w j on, as many as its count
-abbrev pub ends_of : ℕ → List ℕ → List ℕ → ℕ → List (List ℕ)
-ends_of w ends counts j = held_rows w ends counts j
-
--- the one row for the end rows of task j, in the same list: these rows stand after the end rows of all tasks
-abbrev pub one_of : ℕ → List ℕ → ℕ → List ℕ
-one_of w ends j = take w (drop (8 * (32 * w) + w * j) ends)
-
--- how long that list is
-abbrev pub ends_length : ℕ → ℕ
-ends_length w = 8 * (32 * w) + 8 * w
-
--- one list for at most 8 tasks, with at most 32 end rows of w numbers for each, and the one row for those of each of the first `tasks`; `mixed` has for
--- each task the cache blocks where its end rows hold more than one memory block
-pub record EndRows (w : ℕ) (ends counts mixed : List ℕ) (tasks : ℕ) : Type 0 where
-  pub width : Width w
-  pub long : length ends ≡ ends_length w
-  pub many : length counts ≡ 8
-  pub each : length mixed ≡ 8
-  pub few : (j : ℕ) → j < 8 → get_or counts j 0 ≤ 32
-  pub joined : (j : ℕ) → j < tasks → Joined w (ends_of w ends counts j) (one_of w ends j) (get_or mixed j 0)
-  pub inside : tasks ≤ 8
-
 -- whether a row r, of which `held` can be useful, has more of these cache blocks than the number says among those where the end rows fs replace what
 -- r holds: else it does not raise the number
 abbrev pub may_raise : List ℕ → ℕ → ℕ → List (List ℕ) → Bool
@@ -75,12 +54,20 @@ abbrev pub some_below : (ℕ → Bool) → ℕ → Bool
 some_below test zero = false
 some_below test (suc j) = test j || some_below test j
 
--- whether the row may raise one of the numbers of the tasks
-abbrev pub may_raise_some : List ℕ → ℕ → List ℕ → List ℕ → List ℕ → ℕ → Bool
-may_raise_some r held ends counts numbers tasks = some_below (λ j. may_raise r held (get_or numbers j 0) (ends_of (length r) ends counts j)) tasks
+-- the end rows of task j
+abbrev pub end_rows : Ends → ℕ → List (List ℕ)
+end_rows ends j = ends_of ends.w ends.rows.now ends.counts.now j
+
+-- the live rows of a block
+abbrev pub live_rows : Lives → List (List ℕ)
+live_rows lives = lane_rows lives.w lives.count lives.lanes.now
+
+-- whether the row may raise one of the numbers of the first `tasks` tasks
+abbrev pub may_raise_some : List ℕ → ℕ → Ends → List ℕ → ℕ → Bool
+may_raise_some r held ends numbers tasks = some_below (λ j. may_raise r held (get_or numbers j 0) (end_rows ends j)) tasks
 
 -- what the numbers of a task become for each task below `tasks`: the larger of the number and the most over the end rows of that task
-pub record Met (most : List (List ℕ) → ℕ) (w : ℕ) (ends counts : List ℕ) (tasks : ℕ) (old new : List ℕ) : Type 0 where
+pub record Met (most : List (List ℕ) → ℕ) (ends : Ends) (tasks : ℕ) (old new : List ℕ) : Type 0 where
   pub long : length new ≡ length old
-  pub each : (j : ℕ) → j < tasks → get_or new j 0 ≡ max (get_or old j 0) (most (ends_of w ends counts j))
+  pub each : (j : ℕ) → j < tasks → get_or new j 0 ≡ max (get_or old j 0) (most (end_rows ends j))
   pub rest : (j : ℕ) → tasks ≤ j → get_or new j 0 ≡ get_or old j 0

@@ -4,10 +4,11 @@ ghost use Rattle.std.specs.Int.Bits.{bit_and};
 ghost use Rattle.std.specs.Int.Count.{ones};
 ghost use Rattle.cache.specs.Sets.{bits};
 ghost use Rattle.rows.specs.Rows.{Width, rows_of};
-ghost use Rattle.row_sets.specs.Lanes.{lane_rows};
 ghost use Rattle.row_sets.specs.Sets.{some_replaces, Joined};
-ghost use Rattle.pairs.specs.Pairs.{most_common, sets_most, largest_of, NoMoreThanAll, UsefulSets, useful_most, point_most, EndRows, may_raise, may_raise_some, Met};
+ghost use Rattle.pairs.specs.Pairs.{most_common, sets_most, largest_of, NoMoreThanAll, UsefulSets, useful_most, point_most, live_rows, may_raise, may_raise_some, Met};
 
+use crate::ends::Ends;
+use crate::lives::Lives;
 use cache::sets::common;
 use row_sets::replaced::{replaced_by_some, replaced_sets};
 use row_sets::useful::{kept, useful_sets};
@@ -17,11 +18,8 @@ pub fn most_common(set: u32, sets: &[u32]) -> u32
     ensures { result ≡ most_common set sets.now }
 {
     let mut most: u32 = 0;
-    for k in 0..sets.len() {
-        let both = common(set, sets[k]);
-        if most < both {
-            most = both;
-        }
+    for other in sets {
+        most = most.max(common(set, *other));
     }
     most
 }
@@ -31,11 +29,8 @@ fn largest(sets: &[u32]) -> u32
     ensures { result ≡ largest_of sets.now }
 {
     let mut most: u32 = 0;
-    for k in 0..sets.len() {
-        let size = u32::count_ones(sets[k]);
-        if most < size {
-            most = size;
-        }
+    for set in sets {
+        most = most.max(set.count_ones());
     }
     most
 }
@@ -50,7 +45,7 @@ fn raised(number: u16, set: u32, sets: &[u32], all: u32) -> u16
         return number;
     }
     let most = most_common(set, sets) as u16;
-    if number < most { most } else { number }
+    number.max(most)
 }
 
 // The number, raised to the most that one of the useful sets has in common with one of the sets.
@@ -59,78 +54,52 @@ fn raised_by_sets(number: u16, useful: &[u32], sets: &[u32], all: u32) -> u16
     ensures { result ≡ max number (sets_most useful.now sets.now) }
 {
     let mut most = number;
-    for k in 0..useful.len() {
-        most = raised(most, useful[k], sets, all);
+    for set in useful {
+        most = raised(most, *set, sets, all);
     }
     most
 }
 
-// The number, raised to the most for a reaching row, its useful sets, the largest of which has `most` cache blocks, and the first `count` end rows of one
-// task; `held` are the cache blocks of the row that can be useful, and `all` those where one of the end rows replaces what it holds. The end rows are
-// not looked at where these tell that the number stays.
-fn raised_by_row(
-    number: u16,
-    row: &[u16],
+// A reaching row at a point: its cache blocks that can be useful, its useful sets, and how many cache blocks the largest of these has.
+#[derive(Clone, Copy)]
+struct Useful<'a> {
+    row: &'a [u16],
     held: u32,
-    useful: &[u32],
+    sets: &'a [u32],
     most: u32,
-    ends: &[u16],
-    count: usize,
-    all: u32,
-) -> u16
-    requires { Width (length row.now) × UsefulSets row.now held useful.now × (most ≡ largest_of useful.now)
-        × (length ends.now ≡ 32 * length row.now) × (count ≤ 32)
-        × (all ≡ bits (length row.now) (some_replaces (rows_of (length row.now) count ends.now) row.now)) }
-    ensures { result ≡ max number (useful_most row.now useful.now
-        (rows_of (length row.now) count ends.now)) }
+    ghost largest: { most ≡ largest_of sets.now },
+}
+
+// The number, raised to the most for a reaching row and the first `count` end rows of one task; `all` are the cache blocks where one of the end rows
+// replaces what the row holds. The end rows are not looked at where these tell that the number stays.
+fn raised_by_row(number: u16, useful: &Useful, ends: &[u16], count: usize, all: u32) -> u16
+    requires { UsefulSets useful.now.row.now useful.now.held useful.now.sets.now × Width (length useful.now.row.now) × (length ends.now ≡ 32 * length useful.now.row.now) × (count ≤ 32)
+        × (all ≡ bits (length useful.now.row.now) (some_replaces (rows_of (length useful.now.row.now) count ends.now) useful.now.row.now)) }
+    ensures { result ≡ max number (useful_most useful.now.row.now useful.now.sets.now (rows_of (length useful.now.row.now) count ends.now)) }
 {
-    if most <= number as u32 {
+    if useful.most <= number as u32 {
         return number;
     }
-    if common(held, all) <= number as u32 {
+    if common(useful.held, all) <= number as u32 {
         return number;
     }
-    if most_common(all, useful) <= number as u32 {
+    if most_common(all, useful.sets) <= number as u32 {
         return number;
     }
     let mut sets = [0u32; 32];
-    replaced_sets(row, ends, count, &mut sets);
-    raised_by_sets(number, useful, &sets[0..count], all)
+    replaced_sets(useful.row, ends, count, &mut sets);
+    raised_by_sets(number, useful.sets, &sets[0..count], all)
 }
 
-// A reaching row, by its useful sets, is met by the end rows of each task; `held` are the cache blocks that can be useful.
-fn meet_sets(
-    row: &[u16],
-    held: u32,
-    useful: &[u32],
-    ends: &[u16],
-    counts: &[usize],
-    mixed: &[u32],
-    tasks: usize,
-    numbers: &mut [u16],
-)
-    requires { EndRows (length row.now) ends.now counts.now mixed.now tasks × UsefulSets row.now held useful.now
-        × (length numbers.old ≡ 8) }
-    ensures { Met (useful_most row.now useful.now)
-        (length row.now) ends.now counts.now tasks numbers.old numbers.new }
+// A reaching row, by its useful sets, is met by the end rows of each task.
+fn meet_sets(useful: &Useful, ends: &Ends, numbers: &mut [u16])
+    requires { UsefulSets useful.now.row.now useful.now.held useful.now.sets.now × (length useful.now.row.now ≡ ends.now.w) × (length numbers.old ≡ 8) }
+    ensures { Met (useful_most useful.now.row.now useful.now.sets.now) ends.now ends.now.tasks numbers.old numbers.new }
 {
-    let most = largest(useful);
-    let w = row.len();
-    let part = 32 * w;
-    for j in 0..tasks {
-        let at = part * j;
-        let from = 8 * part + w * j;
-        let all = replaced_by_some(row, &ends[from..from + w], mixed[j]);
-        numbers[j] = raised_by_row(
-            numbers[j],
-            row,
-            held,
-            useful,
-            most,
-            &ends[at..at + part],
-            counts[j],
-            all,
-        );
+    // By index: four lists are read at the same place.
+    for j in 0..ends.tasks {
+        let all = replaced_by_some(useful.row, ends.one_of(j), ends.mixed[j]);
+        numbers[j] = raised_by_row(numbers[j], useful, ends.room_of(j), ends.counts[j], all);
     }
 }
 
@@ -149,60 +118,36 @@ fn may_raise(row: &[u16], held: u32, one: &[u16], mixed: u32, number: u16) -> bo
 }
 
 // Whether a reaching row may raise one of the numbers.
-fn may_raise_some(
-    row: &[u16],
-    held: u32,
-    ends: &[u16],
-    counts: &[usize],
-    mixed: &[u32],
-    tasks: usize,
-    numbers: &[u16],
-) -> bool
-    requires { EndRows (length row.now) ends.now counts.now mixed.now tasks × (length numbers.now ≡ 8) }
-    ensures { result ≡ may_raise_some row.now held ends.now counts.now numbers.now tasks }
+fn may_raise_some(row: &[u16], held: u32, ends: &Ends, numbers: &[u16]) -> bool
+    requires { (length row.now ≡ ends.now.w) × (length numbers.now ≡ 8) }
+    ensures { result ≡ may_raise_some row.now held ends.now numbers.now ends.now.tasks }
 {
-    let w = row.len();
-    let first = 8 * (32 * w);
-    for j in 0..tasks {
-        let from = first + w * j;
-        if may_raise(row, held, &ends[from..from + w], mixed[j], numbers[j]) {
+    // By index: three lists are read at the same place.
+    for j in 0..ends.tasks {
+        if may_raise(row, held, ends.one_of(j), ends.mixed[j], numbers[j]) {
             return true;
         }
     }
     false
 }
 
-// A reaching row and the first `lived` live rows of the block, which lie side by side, overlaid by the rest, are met by the end rows of each task. The
-// useful sets are made once for all tasks, and only where a number may be raised.
-pub fn meet_point(
-    row: &[u16],
-    rest: &[u16],
-    lanes: &[u16],
-    lived: usize,
-    ends: &[u16],
-    counts: &[usize],
-    mixed: &[u32],
-    tasks: usize,
-    numbers: &mut [u16],
-)
-    requires { EndRows (length row.now) ends.now counts.now mixed.now tasks × (length rest.now ≡ length row.now)
-        × (length lanes.now ≡ 32 * length row.now) × (lived ≤ 32) × (length numbers.old ≡ 8) }
-    ensures { Met (point_most row.now rest.now (lane_rows (length row.now) lived lanes.now))
-        (length row.now) ends.now counts.now tasks numbers.old numbers.new }
+// A reaching row and the live rows of the block, overlaid by the rest, are met by the end rows of each task. The useful sets are made once for all tasks,
+// and only where a number may be raised.
+pub fn meet_point(row: &[u16], rest: &[u16], lives: &Lives, ends: &Ends, numbers: &mut [u16])
+    requires { (length row.now ≡ ends.now.w) × (length rest.now ≡ ends.now.w) × (lives.now.w ≡ ends.now.w) × (length numbers.old ≡ 8) }
+    ensures { Met (point_most row.now rest.now (live_rows lives.now)) ends.now ends.now.tasks numbers.old numbers.new }
 {
     let held = kept(row, rest);
-    if may_raise_some(row, held, ends, counts, mixed, tasks, numbers) {
+    if may_raise_some(row, held, ends, numbers) {
         let mut sets = [0u32; 32];
-        useful_sets(row, rest, lanes, lived, &mut sets);
-        meet_sets(
+        useful_sets(row, rest, lives.lanes, lives.count, &mut sets);
+        let sets = &sets[0..lives.count];
+        let useful = Useful {
             row,
             held,
-            &sets[0..lived],
-            ends,
-            counts,
-            mixed,
-            tasks,
-            numbers,
-        );
+            sets,
+            most: largest(sets),
+        };
+        meet_sets(&useful, ends, numbers);
     }
 }

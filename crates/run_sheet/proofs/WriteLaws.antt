@@ -1,7 +1,6 @@
 -- The parts of a run's sheet, written one after the other into a list, are the sheet.
 -- The idea: each part that is lent is as long as what is written into it; so the list is what is written up to a place, and from there on as it was.
 use mathlib.Core.Path.{◌≡◌, refl, sym, ap, ap₂, ◌∙◌}
-use mathlib.Core.Bool.{Bool, true, false}
 use mathlib.Core.List.{List, [], ◌∷◌, ◌++◌, append-nil, append_assoc}
 use Prim.Native.Nat.{ℕ, zero, suc, ◌+◌, ◌-◌, ◌/◌, ◌≤◌, ◌<◌}
 use native.Mathlib.Numerals.{add-one}
@@ -11,23 +10,25 @@ use lib.Seq.{take_at, drop-append-add, drop-drop, drop-length, drop-cons, set_at
 use borrow.Rule.Slice.PartMut.{put_mid, mid_len, Post-is}
 use Rattle.sheet.specs.Sheet.{path_numbers, sheet_numbers}
 use Rattle.trails.specs.Trails.{parent_at, length_at, way_back, way_to}
-use Rattle.run_sheet.specs.Joined.{path_to, way_on, length_before, joined_run}
+use Rattle.trails.specs.declared.write.Place.{Place}
+use Rattle.run_sheet.specs.declared.Preemption.{Preemption}
+use Rattle.run_sheet.specs.declared.JoinedRun.{JoinedRun}
+use Rattle.run_sheet.specs.Joined.{path_to, path_before, way_on, length_before, joined_run}
+use Rattle.std.specs.Prelude.{Option, Some, None}
 use Rattle.trails.proofs.WriteLaws.{length_to, length_back}
 
 -- ---- how long the paths are
 
-pub before-first : (first : Bool) (to : List ℕ) (at : ℕ) → first ≡ true → 0 ≡ length_before first to at
-before-first first to at e = rw e
-
-pub before-later : (first : Bool) (to : List ℕ) (at : ℕ) {long : ℕ} → first ≡ false → long ≡ length_at to at → long ≡ length_before first to at
-before-later first to at e q = rw e q
-
 pub to_long_lem : (to : List ℕ) (at : ℕ) → length (path_to to at) ≡ length_at to at
 to_long_lem to at = length_to (length_at to at) to at
 
-pub own-long : (before : ℕ) (to : List ℕ) (at : ℕ) (on : List ℕ) (from : ℕ) → length (way_to before to at ++ way_on on from) ≡ before + length_at on from
-own-long before to at on from =
-    length-append (way_to before to at) (way_on on from) ∙ ap₂ (λ (m n : ℕ). m + n) (length_to before to at) (length_back (length_at on from) on from)
+pub before-long : (before : Option Place) → length (path_before before) ≡ length_before before
+before-long None = refl
+before-long (Some place) = to_long_lem place.trails.now place.at
+
+pub own-long : (before : Option Place) (on : List ℕ) (from : ℕ) → length (path_before before ++ way_on on from) ≡ length_before before + length_at on from
+own-long before on from =
+    length-append (path_before before) (way_on on from) ∙ ap₂ (λ (m n : ℕ). m + n) (before-long before) (length_back (length_at on from) on from)
 
 -- the way on begins with the block of its place
 pub on_first : (on : List ℕ) (from : ℕ) → 1 ≤ length_at on from → from / 32 ∷ way_back (length_at on from - 1) on (parent_at on from) ≡ way_on on from
@@ -130,43 +131,44 @@ answered numbers sheet parts e {now} q h g =
     (long, g ∙ ap₂ (λ (l : List ℕ) (n : ℕ). l ++ drop n sheet) (sym q) long)
 
 -- the parts that are lent for the task with its path and for the preemption
-pub own_room : (before : ℕ) (to : List ℕ) (at : ℕ) (on : List ℕ) (from : ℕ) (sheet : List ℕ) (after : ℕ) → after ≡ length_at on from → 2 + before + after ≤ length sheet
-    → length (take (2 + before + after - 0) sheet) ≡ 2 + length (way_to before to at ++ way_on on from)
-own_room before to at on from sheet after ea h = mid_len 0 (2 + before + after) sheet h ∙ omega (arith, own-long before to at on from)
+pub own_room : (before : Option Place) (on : List ℕ) (from : ℕ) (sheet : List ℕ) (n after : ℕ) → n ≡ length_before before → after ≡ length_at on from
+    → 2 + n + after ≤ length sheet → length (take (2 + n + after - 0) sheet) ≡ 2 + length (path_before before ++ way_on on from)
+own_room before on from sheet n after en ea h = mid_len 0 (2 + n + after) sheet h ∙ omega (arith, own-long before on from)
 
 pub by-room : (by : List ℕ) (end : ℕ) (l : List ℕ) (a ended : ℕ) → ended ≡ length_at by end → a + 5 + ended ≤ length l
     → length (take (a + 5 + ended - a) (drop a l)) ≡ 5 + length (path_to by end)
 by-room by end l a ended e h = mid_len a (a + 5 + ended) l h ∙ omega (arith, to_long_lem by end)
 
-module _ (i j : ℕ) (first : Bool) (to : List ℕ) (at done : ℕ) (on : List ℕ) (from : ℕ) (by : List ℕ) (end : ℕ) (sheet : List ℕ) (before after : ℕ) {written : List ℕ} (eb : before ≡ length_before first to at) (ea : after ≡ length_at on from) (wrote : written ≡ i ∷ path_numbers (way_to before to at ++ way_on on from)) where
+module _ (run : JoinedRun) (sheet : List ℕ) (n after : ℕ) {written : List ℕ} (en : n ≡ length_before run.before) (ea : after ≡ length_at run.on.trails.now run.on.at)
+    (wrote : written ≡ run.task ∷ path_numbers (path_before run.before ++ way_on run.on.trails.now run.on.at)) where
   abbrev own : List ℕ
-  own = i ∷ path_numbers (way_to before to at ++ way_on on from)
+  own = run.task ∷ path_numbers (path_before run.before ++ way_on run.on.trails.now run.on.at)
 
-  split : length own ≡ 2 + before + after
-  split = omega (arith, own-long before to at on from)
+  split : length own ≡ 2 + n + after
+  split = omega (arith, own-long run.before run.on.trails.now run.on.at)
 
-  own_part_lem : put_mid 0 (2 + before + after - 0) sheet written ≡ own ++ drop (2 + before + after) sheet
-  own_part_lem = part_written sheet [] own 0 (2 + before + after) refl (omega (arith, split)) refl wrote
+  own_part_lem : put_mid 0 (2 + n + after - 0) sheet written ≡ own ++ drop (2 + n + after) sheet
+  own_part_lem = part_written sheet [] own 0 (2 + n + after) refl (omega (arith, split)) refl wrote
 
   -- with one preemption
-  pub sheet-preempted : (preempted : Bool) (ended : ℕ) {second : List ℕ} → preempted ≡ true → ended ≡ length_at by end
-      → second ≡ 1 ∷ before ∷ done ∷ j ∷ path_numbers (path_to by end)
-      → Answered (sheet_numbers (joined_run preempted i j first to at done on from by end)) sheet (2 + before + after + 5 + ended)
-      (put_mid (2 + before + after) (2 + before + after + 5 + ended - (2 + before + after)) (put_mid 0 (2 + before + after - 0) sheet written) second)
-  sheet-preempted preempted ended ep ee q =
-      let preemption : List ℕ = 1 ∷ before ∷ done ∷ j ∷ path_numbers (path_to by end) in
-      let numbers : sheet_numbers (joined_run preempted i j first to at done on from by end) ≡ own ++ preemption = rw (ep, eb, append-nil (path_to by end)) in
-      let long : 2 + before + after + length preemption ≡ 2 + before + after + 5 + ended = omega (arith, to_long_lem by end) in
-      answered (sheet_numbers (joined_run preempted i j first to at done on from by end)) sheet (own ++ preemption) (2 + before + after + 5 + ended) numbers
+  pub sheet-preempted : (p : Preemption) (ended : ℕ) {second : List ℕ} → run.preemption ≡ Some p → ended ≡ length_at p.path.trails.now p.path.at
+      → second ≡ 1 ∷ n ∷ p.done ∷ p.by ∷ path_numbers (path_to p.path.trails.now p.path.at)
+      → Answered (sheet_numbers (joined_run run)) sheet (2 + n + after + 5 + ended)
+      (put_mid (2 + n + after) (2 + n + after + 5 + ended - (2 + n + after)) (put_mid 0 (2 + n + after - 0) sheet written) second)
+  sheet-preempted p ended ep ee q =
+      let by = path_to p.path.trails.now p.path.at in
+      let preemption : List ℕ = 1 ∷ n ∷ p.done ∷ p.by ∷ path_numbers by in
+      let numbers : sheet_numbers (joined_run run) ≡ own ++ preemption = rw (ep, en, append-nil by) in
+      let long : 2 + n + after + length preemption ≡ 2 + n + after + 5 + ended = omega (arith, to_long_lem p.path.trails.now p.path.at) in
+      answered (sheet_numbers (joined_run run)) sheet (own ++ preemption) (2 + n + after + 5 + ended) numbers
       (length-append own preemption ∙ omega (arith, split, long))
-      (part_written sheet own preemption (2 + before + after) (2 + before + after + 5 + ended) split long own_part_lem q)
+      (part_written sheet own preemption (2 + n + after) (2 + n + after + 5 + ended) split long own_part_lem q)
 
   -- with none
-  pub sheet-whole : (preempted : Bool) → preempted ≡ false → 2 + before + after < length sheet
-      → Answered (sheet_numbers (joined_run preempted i j first to at done on from by end)) sheet (2 + before + after + 1)
-      (set (put_mid 0 (2 + before + after - 0) sheet written) (2 + before + after) 0)
-  sheet-whole preempted ep h =
-      let a = 2 + before + after in
-      let numbers : sheet_numbers (joined_run preempted i j first to at done on from by end) ≡ own ++ (0 ∷ []) = rw (ep, eb) in
-      answered (sheet_numbers (joined_run preempted i j first to at done on from by end)) sheet (own ++ (0 ∷ [])) (a + 1) numbers (length-append own (0 ∷ []) ∙ omega (arith, split))
+  pub sheet-whole : run.preemption ≡ None → 2 + n + after < length sheet
+      → Answered (sheet_numbers (joined_run run)) sheet (2 + n + after + 1) (set (put_mid 0 (2 + n + after - 0) sheet written) (2 + n + after) 0)
+  sheet-whole ep h =
+      let a = 2 + n + after in
+      let numbers : sheet_numbers (joined_run run) ≡ own ++ (0 ∷ []) = rw ep in
+      answered (sheet_numbers (joined_run run)) sheet (own ++ (0 ∷ [])) (a + 1) numbers (length-append own (0 ∷ []) ∙ omega (arith, split))
       (number_written sheet own a 0 split h own_part_lem)

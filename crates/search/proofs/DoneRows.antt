@@ -1,13 +1,12 @@
 -- The row of a point from the row before its block, in the code's words: a turn of the loop that makes its references, and the row in a room that is
 -- lent.
-use mathlib.Core.Path.{◌≡◌, refl, ap, ◌∙◌}
+use mathlib.Core.Path.{◌≡◌, ap, ◌∙◌}
 use mathlib.Core.List.{List}
 use Prim.Native.Nat.{ℕ, ◌+◌, ◌<◌}
 use lib.ListN.{length, get_or, take}
 use Rattle.cache.specs.declared.blocks.CacheShape.{CacheShape}
 use Rattle.cache.specs.Shape.{shaped}
 use Rattle.cache.specs.Cache.{with_reference, with_references}
-use Rattle.cache.proofs.Rows.{length-with_references}
 use Rattle.points.proofs.DoneRows.{one-done}
 
 -- one reference more is done
@@ -21,6 +20,3 @@ refer_turn shape ms first i {row} {new} h long is stored =
 pub done_made : (shape : CacheShape) (ms : List ℕ) (d : ℕ) (row : List ℕ) {part new : List ℕ} → part ≡ row → new ≡ with_references (shaped (length part) shape) part (take d ms)
     → new ≡ with_references (shaped (length row) shape) row (take d ms)
 done_made shape ms d row e q = q ∙ ap (λ (r : List ℕ). with_references (shaped (length r) shape) r (take d ms)) e
-
-pub done-long : (shape : CacheShape) (ms row : List ℕ) → length (with_references (shaped (length row) shape) row ms) ≡ length row
-done-long shape ms row = length-with_references (shaped (length row) shape) ms row refl

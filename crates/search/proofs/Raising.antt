@@ -11,8 +11,6 @@ use lib.ListN.{length, get_or, take, drop}
 use lib.Bits.{bit_and}
 use lib.Count.{ones, ones-le}
 use borrow.Author.Tests.{ltb-true, ltb-false}
-use Rattle.cache.specs.declared.blocks.CacheShape.{CacheShape}
-use Rattle.cache.specs.Shape.{shaped}
 use Rattle.cache.specs.Cache.{Cache}
 use Rattle.cache.specs.Sets.{in_set}
 use Rattle.cache.proofs.Bits.{and_ones}
@@ -24,7 +22,7 @@ use Rattle.points.specs.Points.{rest_of, left_rows, predecessors_of}
 use Rattle.row_sets.specs.Sets.{useful_set}
 use Rattle.search.specs.declared.Point.{Point}
 use Rattle.search.specs.declared.Found.{Found}
-use Rattle.search.specs.Search.{Candidates, Raised, Below, AtEnd, OfSet, AtLive, OfRow, OfDone, point_after, AtReaching, OfReaching, AtBefore, OfBefore, fewest_done, AtDone, OfBlock, AtBlock}
+use Rattle.search.specs.Search.{Candidates, Raised, Below, AtEnd, OfSet, AtLive, OfDone, point_after, AtReaching, OfReaching, AtBefore, OfBefore, fewest_done, AtDone, OfBlock, AtBlock}
 
 -- what is found stays where no candidate costs more
 raised_kept : (C : Candidates) (a : Found) → ((x : Found) → C x → x.cost ≤ a.cost) → Raised C a a
@@ -114,31 +112,13 @@ live_more p w lived live row sets k h e so_far q =
 
 -- ---- a row before the block
 
--- the row of a point, as it was lent, where the live rows and the end rows are as wide as it
-pub row_as : (p : Point) (w lived : ℕ) (live : List ℕ) (ended : ℕ) (ends : List ℕ) {part row : List ℕ} {a c : Found} → part ≡ row → length part ≡ w
-    → Raised (OfRow p part (rows_of (length part) lived live) (rows_of (length part) ended ends)) a c → Raised (OfRow p row (rows_of w lived live) (rows_of w ended ends)) a c
-row_as p w lived live ended ends {part} {a = a} {c} e long q =
-    subst (λ (r : List ℕ). Raised (OfRow p r (rows_of w lived live) (rows_of w ended ends)) a c) e
-    (subst (λ (n : ℕ). Raised (OfRow p part (rows_of n lived live) (rows_of n ended ends)) a c) long q)
-
--- the row before its block, likewise
-pub done_as : (shape : CacheShape) (ms : List ℕ) (p : Point) (w lived : ℕ) (live : List ℕ) (ended : ℕ) (ends : List ℕ) {part row : List ℕ} {a c : Found} → part ≡ row
-    → length part ≡ w → Raised (OfDone (shaped (length part) shape) ms p part (rows_of (length part) lived live) (rows_of (length part) ended ends)) a c
-    → Raised (OfDone (shaped w shape) ms p row (rows_of w lived live) (rows_of w ended ends)) a c
-done_as shape ms p w lived live ended ends {part} {a = a} {c} e long q =
-    subst (λ (r : List ℕ). Raised (OfDone (shaped w shape) ms p r (rows_of w lived live) (rows_of w ended ends)) a c) e
-    (subst (λ (n : ℕ). Raised (OfDone (shaped n shape) ms p part (rows_of n lived live) (rows_of n ended ends)) a c) long q)
-
-pub reaching_more : (shape : CacheShape) (ms : List ℕ) (b d before w reached : ℕ) (reaching : List ℕ) (lived : ℕ) (live : List ℕ) (ended : ℕ) (ends : List ℕ) (k : ℕ) {a c e : Found}
-    → k < reached → length (take (w * k + w - w * k) (drop (w * k) reaching)) ≡ w
-    → Raised (Below (λ x. x.point.reaching) k (AtReaching (shaped w shape) ms b d before (rows_of w reached reaching) (rows_of w lived live) (rows_of w ended ends))) a c
-    → Raised (OfDone (shaped (length (take (w * k + w - w * k) (drop (w * k) reaching))) shape) ms (point_after b d before k) (take (w * k + w - w * k) (drop (w * k) reaching))
-    (rows_of (length (take (w * k + w - w * k) (drop (w * k) reaching))) lived live) (rows_of (length (take (w * k + w - w * k) (drop (w * k) reaching))) ended ends)) c e
-    → Raised (Below (λ x. x.point.reaching) (k + 1) (AtReaching (shaped w shape) ms b d before (rows_of w reached reaching) (rows_of w lived live) (rows_of w ended ends))) a e
-reaching_more shape ms b d before w reached reaching lived live ended ends k h long so_far q =
-    raised_more (λ x. x.point.reaching) (AtReaching (shaped w shape) ms b d before (rows_of w reached reaching) (rows_of w lived live) (rows_of w ended ends))
-    (λ r x s. ap (λ (y : Found). y.point.reaching) s.1.1) k so_far
-    (done_as shape ms (point_after b d before k) w lived live ended ends (sym (row_lent w reached k reaching h)) long q)
+pub reaching_more : (k : Cache) (ms : List ℕ) (b d before w reached : ℕ) (reaching : List ℕ) (ls fs : List (List ℕ)) (r : ℕ) {a c e : Found} → r < reached
+    → Raised (Below (λ x. x.point.reaching) r (AtReaching k ms b d before (rows_of w reached reaching) ls fs)) a c
+    → Raised (OfDone k ms (point_after b d before r) (take (w * r + w - w * r) (drop (w * r) reaching)) ls fs) c e
+    → Raised (Below (λ x. x.point.reaching) (r + 1) (AtReaching k ms b d before (rows_of w reached reaching) ls fs)) a e
+reaching_more k ms b d before w reached reaching ls fs r h so_far q =
+    raised_more (λ x. x.point.reaching) (AtReaching k ms b d before (rows_of w reached reaching) ls fs) (λ r x s. ap (λ (y : Found). y.point.reaching) s.1.1) r so_far
+    (rw (row_lent w reached r reaching h) q)
 
 -- ---- a block before it more, where it is in the set and where not
 

@@ -1,12 +1,11 @@
 -- The search for the point and the rows that make a pair number. Definitions only.
-use Rattle.std.specs.Prelude.{◌≡◌, ◌⊎◌, true, false, List, [], ℕ, zero, suc, ◌+◌, ◌*◌, ◌≤◌, ◌<◌, length, get_or, take}
+use Rattle.std.specs.Prelude.{◌≡◌, ◌⊎◌, true, false, List, [], ℕ, zero, suc, ◌+◌, ◌≤◌, ◌<◌, length, get_or, take}
 use Rattle.std.specs.Int.Bits.{bit_and}
 use Rattle.std.specs.Int.Count.{ones}
 use Rattle.cache.specs.Cache.{Cache, Row, empty_row, with_references}
 use Rattle.cache.specs.Sets.{in_set}
 use Rattle.model.specs.Tasks.{Task, block}
 use Rattle.model.specs.Computed.{unmasked}
-use Rattle.rows.specs.Rows.{Width}
 use Rattle.points.specs.Points.{rest_of, left_rows, predecessors_of}
 use Rattle.row_sets.specs.Sets.{useful_set, replaced_sets}
 use Rattle.search.specs.declared.Point.{Point}
@@ -109,13 +108,3 @@ none_found = record { point = first_point 0 0; live = 0; ending = 0; cost = 0 }
 -- what it answers: a candidate with the largest cost, where there is one
 abbrev pub Searched : Cache → Task → (ℕ → List Row) → (ℕ → List Row) → List Row → Found → Type 0
 Searched k t rs ls fs = Raised (OfTask k t rs ls fs) none_found
-
--- ---- what the code is lent
-
--- room for 32 live rows of a block and 32 end rows of a task, of w numbers each, and how many of them there are
-pub record RowLists (w : ℕ) (live : List ℕ) (lived : ℕ) (ends : List ℕ) (ended : ℕ) : Type 0 where
-  pub width : Width w
-  pub live_long : length live ≡ 32 * w
-  pub live_few : lived ≤ 32
-  pub ends_long : length ends ≡ 32 * w
-  pub ends_few : ended ≤ 32

@@ -1,9 +1,11 @@
 // The search among the rows at one point.
-ghost use Rattle.std.specs.Prelude.{◌≡◌, ◌*◌, ◌≤◌, length};
-ghost use Rattle.rows.specs.Rows.{Width, rows_of};
-ghost use Rattle.search.specs.Search.{Raised, OfSet, OfLive, OfRow, RowLists};
+ghost use Rattle.std.specs.Prelude.{◌≡◌, length};
+ghost use Rattle.rows.specs.Rows.{rows_of};
+ghost use Rattle.block_rows.specs.BlockRows.{listed};
+ghost use Rattle.search.specs.Search.{Raised, OfSet, OfLive, OfRow};
 
-use crate::{Found, Point};
+use crate::{Found, Point, PointRows};
+use block_rows::row_list::RowList;
 use cache::sets::{common, useful};
 use row_sets::replaced::replaced_sets;
 
@@ -16,6 +18,7 @@ fn over_ends(old: Found, point: Point, live: usize, set: u32, sets: &[u32]) -> F
     if u32::count_ones(set) < old.cost {
         return found;
     }
+    // By index: the number of the end row is part of what is found.
     for e in 0..sets.len() {
         let cost = common(set, sets[e]) + 1;
         if found.cost < cost {
@@ -30,44 +33,27 @@ fn over_ends(old: Found, point: Point, live: usize, set: u32, sets: &[u32]) -> F
     found
 }
 
-// The same for the row of the point with each of the first `lived` live rows; `sets` are the sets that the end rows replace in it.
-fn over_live(
-    old: Found,
-    point: Point,
-    row: &[u16],
-    live: &[u16],
-    lived: usize,
-    sets: &[u32],
-) -> Found
-    requires { Width (length row.now) × (length live.now ≡ 32 * length row.now) × (lived ≤ 32) }
-    ensures { Raised (OfLive point row.now
-        (rows_of (length row.now) lived live.now) sets.now) old result }
+// The same for the row of the point with each live row; `sets` are the sets that the end rows replace in it.
+fn over_live(old: Found, point: Point, row: &[u16], live: &RowList, sets: &[u32]) -> Found
+    requires { length row.now ≡ live.now.w }
+    ensures { Raised (OfLive point row.now (listed live.now) sets.now) old result }
 {
-    let w = row.len();
+    let w = live.w;
     let mut found = old;
-    for l in 0..lived {
+    for l in 0..live.count {
         let at = w * l;
-        let set = useful(row, &live[at..at + w]);
+        let set = useful(row, &live.rows[at..at + w]);
         found = over_ends(found, point, l, set, sets);
     }
     found
 }
 
-// The same with each of the first `ended` end rows, as wide as the row.
-pub fn over_row(
-    old: Found,
-    point: Point,
-    row: &[u16],
-    live: &[u16],
-    lived: usize,
-    ends: &[u16],
-    ended: usize,
-) -> Found
-    requires { RowLists (length row.now) live.now lived ends.now ended }
-    ensures { Raised (OfRow point row.now (rows_of (length row.now) lived live.now)
-        (rows_of (length row.now) ended ends.now)) old result }
+// The same with each of the end rows.
+pub fn over_row(old: Found, point: Point, row: &[u16], rows: &PointRows) -> Found
+    requires { length row.now ≡ rows.now.live.w }
+    ensures { Raised (OfRow point row.now (listed rows.now.live) (listed rows.now.ends)) old result }
 {
     let mut sets = [0u32; 32];
-    replaced_sets(row, ends, ended, &mut sets);
-    over_live(old, point, row, live, lived, &sets[0..ended])
+    replaced_sets(row, rows.ends.rows, rows.ends.count, &mut sets);
+    over_live(old, point, row, &rows.live, &sets[0..rows.ends.count])
 }

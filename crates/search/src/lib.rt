@@ -5,19 +5,21 @@ mod at_point;
 mod before;
 mod block;
 
-ghost use Rattle.std.specs.Prelude.{◌≡◌, true, ◌*◌, ◌≤◌, length};
+ghost use Rattle.std.specs.Prelude.{◌≡◌, true};
 ghost use Rattle.cache.specs.Shape.{shaped, Holds};
 ghost use Rattle.body.specs.Decode.{decode, task_of};
 ghost use Rattle.body.specs.Walk.{kept_of};
-ghost use Rattle.rows.specs.Rows.{rows_of};
-ghost use Rattle.gather.specs.Memory.{Memory, held_rows};
+ghost use Rattle.block_rows.specs.BlockRows.{rows_by, listed};
 ghost use Rattle.search.specs.Search.{Searched};
 
 use block::over_block;
+use block_rows::block::Block;
+use block_rows::held::Held;
+use block_rows::row_list::RowList;
 use body::jumps::jumps;
 use body::masks::unmasked_blocks;
 use body::predecessors::predecessors;
-use body::{references, walk};
+use body::{kept_walk, references};
 use cache::blocks::CacheShape;
 
 // A point of a block, where `done` of its references are done, and the row before the block: it is the first of a path, or comes after the block
@@ -55,50 +57,41 @@ const NONE_FOUND: Found = Found {
     cost: 0,
 };
 
-// The point of an unmasked block of a body, the rows there and the end row of another task that cost most; nothing where all blocks are masked. `reached`,
-// `lived` and `ended` tell how many rows, of w numbers each, a block has and the other task ends with.
-pub fn search(
-    body: &[u8],
-    shape: CacheShape,
-    w: usize,
-    reaching: &[u16],
-    reached: &[usize],
-    live: &[u16],
-    lived: &[usize],
-    ends: &[u16],
-    ended: usize,
-) -> Found
-    requires { (kept_of (decode body.now) ≡ true) × Holds w shape × Memory w reaching.now reached.now × Memory w live.now lived.now
-        × (length ends.now ≡ 32 * w) × (ended ≤ 32) }
-    ensures { Searched (shaped w shape) (task_of (decode body.now)) (held_rows w reaching.now reached.now)
-        (held_rows w live.now lived.now) (rows_of w ended ends.now) result }
+// The rows of a task at a point, or before it in its block, that are live there, and the rows of another task's end block.
+#[derive(Clone, Copy)]
+pub struct PointRows<'a, 'b> {
+    pub live: RowList<'a>,
+    pub ends: RowList<'b>,
+    ghost same: { live.w ≡ ends.w },
+}
+
+// The point of an unmasked block of a body, the rows there and the end row of another task that cost most; nothing where all blocks are masked. Given are
+// the reaching and the live rows of each block, and the rows that the other task ends with.
+pub fn search(body: &[u8], shape: CacheShape, reaching: &Held, live: &Held, ends: &RowList) -> Found
+    requires { (kept_of (decode body.now) ≡ true) × Holds ends.now.w shape × (reaching.now.w ≡ ends.now.w) × (live.now.w ≡ ends.now.w) }
+    ensures { Searched (shaped ends.now.w shape) (task_of (decode body.now)) (rows_by reaching.now) (rows_by live.now) (listed ends.now) result }
 {
-    let walked = walk(body);
+    let walked = kept_walk(body);
     let starts = walked.starts;
     let blocks = walked.blocks;
-    let before = predecessors(jumps(body, walked), blocks);
+    let before = predecessors(jumps(&walked), blocks);
     let unmasked = unmasked_blocks(body);
-    let part = 32 * w;
     let mut found = NONE_FOUND;
     for b in 0..blocks {
         if unmasked & (1 << b) != 0 {
-            let at = part * b;
-            let start = starts[b];
-            found = over_block(
-                found,
-                b,
-                before[b],
+            let block = Block {
+                number: b,
                 blocks,
-                references(body, start),
+                before: before[b],
+                references: references(body, starts[b]),
                 shape,
-                w,
-                reaching,
-                reached,
-                &live[at..at + part],
-                lived[b],
-                ends,
-                ended,
-            );
+                w: ends.w,
+            };
+            let rows = PointRows {
+                live: live.of_block(b),
+                ends: *ends,
+            };
+            found = over_block(found, &block, reaching, &rows);
         }
     }
     found

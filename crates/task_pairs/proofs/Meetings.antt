@@ -21,8 +21,8 @@ use Rattle.rows.specs.Rows.{rows_of}
 use Rattle.rows.proofs.Parts.{lent_front}
 use Rattle.points.specs.Points.{rest_of, Rests, rows_in, predecessors_of, rows_before}
 use Rattle.rows.proofs.Parts.{rows_more}
-use Rattle.row_sets.specs.Lanes.{lane_rows}
 use Rattle.pairs.specs.Pairs.{point_most, Met}
+use Rattle.pairs.specs.declared.ends.Ends.{Ends}
 use Rattle.pairs.proofs.Meeting.{met_none, met_same, met_more}
 use Rattle.task_pairs.specs.TaskPairs.{done_most, before_most, block_most, task_most}
 
@@ -61,36 +61,31 @@ rows_in_more set rs (suc n) p =
 
 -- ---- the numbers
 
--- a row that was lent is w numbers wide
-pub as_wide : (w tasks lived : ℕ) (row rest lanes ends counts old new : List ℕ) → length row ≡ w
-    → Met (point_most row rest (lane_rows (length row) lived lanes)) (length row) ends counts tasks old new → Met (point_most row rest (lane_rows w lived lanes)) w ends counts tasks old new
-as_wide w tasks lived row rest lanes ends counts old new e h = rw (← e) h
-
-module _ (w : ℕ) (ends counts : List ℕ) (tasks : ℕ) (k : Cache) (ms : List ℕ) (ls : List (List ℕ)) where
+module _ (ends : Ends) (tasks : ℕ) (k : Cache) (ms : List ℕ) (ls : List (List ℕ)) where
   module _ (row : List ℕ) where
     -- all points of a block: it has no reference, or some
-    pub met_one : {rest n n' : List ℕ} → ms ≡ [] → rest ≡ rest_of k ms 0 → Met (point_most row rest ls) w ends counts tasks n n'
-        → Met (before_most k ms ls row) w ends counts tasks n n'
+    pub met_one : {rest n n' : List ℕ} → ms ≡ [] → rest ≡ rest_of k ms 0 → Met (point_most row rest ls) ends tasks n n'
+        → Met (before_most k ms ls row) ends tasks n n'
     met_one {rest} e d =
-        met_same w ends counts tasks
+        met_same ends tasks
         (λ fs. ap (λ (l : List ℕ). best (done_most k ms ls row fs) (dones l)) e
         ∙ (let z : best (done_most k ms ls row fs) (0 ∷ []) ≡ done_most k ms ls row fs 0 = omega arith in z)
         ∙ ap (λ (x : List ℕ). point_most row x ls fs) (sym d))
 
     pub met_some : {copy n n' : List ℕ} (count : ℕ) → count ≡ length ms → 0 < count → copy ≡ row
-        → Met (λ fs. best (done_most k ms ls copy fs) (up_from 1 count)) w ends counts tasks n n' → Met (before_most k ms ls row) w ends counts tasks n n'
+        → Met (λ fs. best (done_most k ms ls copy fs) (up_from 1 count)) ends tasks n n' → Met (before_most k ms ls row) ends tasks n n'
     met_some {copy} count e h d =
-        met_same w ends counts tasks
+        met_same ends tasks
         (λ fs. ap (best (done_most k ms ls row fs)) (dones-some ms (omega arith) ∙ ap (up_from 1) (sym e))
         ∙ ap (λ (r : List ℕ). best (done_most k ms ls r fs) (up_from 1 count)) (sym d))
 
   -- for one more row before the block
-  pub met_row : (rows : List ℕ) (i : ℕ) {n n' n'' : List ℕ} → Met (block_most k ms ls (rows_of w i rows)) w ends counts tasks n n'
-      → Met (before_most k ms ls (take (w * i + w - w * i) (drop (w * i) rows))) w ends counts tasks n' n''
-      → Met (block_most k ms ls (rows_of w (i + 1) rows)) w ends counts tasks n n''
-  met_row rows i =
+  pub met_row : (w : ℕ) (rows : List ℕ) (i : ℕ) {n n' n'' : List ℕ} → Met (block_most k ms ls (rows_of w i rows)) ends tasks n n'
+      → Met (before_most k ms ls (take (w * i + w - w * i) (drop (w * i) rows))) ends tasks n' n''
+      → Met (block_most k ms ls (rows_of w (i + 1) rows)) ends tasks n n''
+  met_row w rows i =
       let row = take (w * i + w - w * i) (drop (w * i) rows) in
-      met_more w ends counts tasks (block_most k ms ls (rows_of w (i + 1) rows))
+      met_more ends tasks (block_most k ms ls (rows_of w (i + 1) rows))
       (λ fs. ap (λ (l : List (List ℕ)). block_most k ms ls l fs) (rows_more w i rows)
       ∙ best-append (λ (r : List ℕ). before_most k ms ls r fs) (rows_of w i rows) (row ∷ [])
       ∙ ap (max (block_most k ms ls (rows_of w i rows) fs)) (best-one (λ (r : List ℕ). before_most k ms ls r fs) row))
@@ -105,35 +100,35 @@ module _ (w : ℕ) (ends counts : List ℕ) (tasks : ℕ) (k : Cache) (ms : List
         ∙ best-append (λ (r : List ℕ). before_most k ms ls r fs) (rows_in set rs p 0) (cond (in_set set p) (rs p) [])
         ∙ ap (λ (l : List (List ℕ)). max (block_most k ms ls (rows_in set rs p 0) fs) (block_most k ms ls l fs)) (sym e)
 
-    pub met_in : {rows : List (List ℕ)} {n n' n'' : List ℕ} → in_set set p ≡ true → rows ≡ rs p → Met (block_most k ms ls (rows_in set rs p 0)) w ends counts tasks n n'
-        → Met (block_most k ms ls rows) w ends counts tasks n' n'' → Met (block_most k ms ls (rows_in set rs (p + 1) 0)) w ends counts tasks n n''
-    met_in {rows} h e = met_more w ends counts tasks (block_most k ms ls (rows_in set rs (p + 1) 0)) (in_more rows (rw h e))
+    pub met_in : {rows : List (List ℕ)} {n n' n'' : List ℕ} → in_set set p ≡ true → rows ≡ rs p → Met (block_most k ms ls (rows_in set rs p 0)) ends tasks n n'
+        → Met (block_most k ms ls rows) ends tasks n' n'' → Met (block_most k ms ls (rows_in set rs (p + 1) 0)) ends tasks n n''
+    met_in {rows} h e = met_more ends tasks (block_most k ms ls (rows_in set rs (p + 1) 0)) (in_more rows (rw h e))
 
-    pub met_out : {n n' : List ℕ} → in_set set p ≡ false → Met (block_most k ms ls (rows_in set rs p 0)) w ends counts tasks n n'
-        → Met (block_most k ms ls (rows_in set rs (p + 1) 0)) w ends counts tasks n n'
+    pub met_out : {n n' : List ℕ} → in_set set p ≡ false → Met (block_most k ms ls (rows_in set rs p 0)) ends tasks n n'
+        → Met (block_most k ms ls (rows_in set rs (p + 1) 0)) ends tasks n n'
     met_out {n' = n'} h so_far =
-        met_more w ends counts tasks (block_most k ms ls (rows_in set rs (p + 1) 0)) (in_more [] (rw h)) so_far
-        (met_none w ends counts (block_most k ms ls []) tasks n' (λ fs. refl))
+        met_more ends tasks (block_most k ms ls (rows_in set rs (p + 1) 0)) (in_more [] (rw h)) so_far
+        (met_none ends (block_most k ms ls []) tasks n' (λ fs. refl))
 
   -- for all rows before a block: block 0, or another
   module _ (set : ℕ) (rs : ℕ → List (List ℕ)) (blocks b : ℕ) where
-    pub met_first : {row n n' n'' : List ℕ} → b ≡ 0 → row ≡ empty_row k → Met (before_most k ms ls row) w ends counts tasks n n'
-        → Met (block_most k ms ls (rows_in set rs blocks 0)) w ends counts tasks n' n'' → Met (block_most k ms ls (rows_before k blocks set rs b)) w ends counts tasks n n''
+    pub met_first : {row n n' n'' : List ℕ} → b ≡ 0 → row ≡ empty_row k → Met (before_most k ms ls row) ends tasks n n'
+        → Met (block_most k ms ls (rows_in set rs blocks 0)) ends tasks n' n'' → Met (block_most k ms ls (rows_before k blocks set rs b)) ends tasks n n''
     met_first e d =
-        met_more w ends counts tasks (block_most k ms ls (rows_before k blocks set rs b))
+        met_more ends tasks (block_most k ms ls (rows_before k blocks set rs b))
         (λ fs. ap (λ (s : Bool). block_most k ms ls (cond s (empty_row k ∷ []) [] ++ rows_in set rs blocks 0) fs) (eq-eqb b 0 e)
         ∙ best-append (λ (r : List ℕ). before_most k ms ls r fs) (empty_row k ∷ []) (rows_in set rs blocks 0)
         ∙ ap (λ (x : ℕ). max x (block_most k ms ls (rows_in set rs blocks 0) fs))
         (best-one (λ (r : List ℕ). before_most k ms ls r fs) (empty_row k) ∙ ap (λ (r : List ℕ). before_most k ms ls r fs) (sym d)))
 
-    pub met_later : {n n' : List ℕ} → (b ≡ 0 → ⊥) → Met (block_most k ms ls (rows_in set rs blocks 0)) w ends counts tasks n n'
-        → Met (block_most k ms ls (rows_before k blocks set rs b)) w ends counts tasks n n'
+    pub met_later : {n n' : List ℕ} → (b ≡ 0 → ⊥) → Met (block_most k ms ls (rows_in set rs blocks 0)) ends tasks n n'
+        → Met (block_most k ms ls (rows_before k blocks set rs b)) ends tasks n n'
     met_later h =
-        met_same w ends counts tasks
+        met_same ends tasks
         (λ fs. ap (λ (s : Bool). block_most k ms ls (cond s (empty_row k ∷ []) [] ++ rows_in set rs blocks 0) fs) (ne_eqb b 0 h))
 
 -- for one more block of a task, which is unmasked or not
-module _ (w : ℕ) (ends counts : List ℕ) (tasks : ℕ) (k : Cache) (t : Task) (rs ls : ℕ → List (List ℕ)) where
+module _ (ends : Ends) (tasks : ℕ) (k : Cache) (t : Task) (rs ls : ℕ → List (List ℕ)) where
   abbrev most : ℕ → List (List ℕ) → ℕ
   most b fs = cond (unmasked t b) (block_most k (block t b).references (ls b) (rows_before k (length t) (predecessors_of t b) rs b) fs) 0
 
@@ -151,10 +146,10 @@ module _ (w : ℕ) (ends counts : List ℕ) (tasks : ℕ) (k : Cache) (t : Task)
       ∙ ap (λ (i : ℕ). max (task_most k t rs ls b 0 fs) (most i fs)) (zero-add b)
 
   pub met_unmasked : (b blocks set : ℕ) {ms n n' n'' : List ℕ} {live : List (List ℕ)} → unmasked t b ≡ true → blocks ≡ length t → set ≡ predecessors_of t b
-      → ms ≡ (block t b).references → live ≡ ls b → Met (task_most k t rs ls b 0) w ends counts tasks n n'
-      → Met (block_most k ms live (rows_before k blocks set rs b)) w ends counts tasks n' n'' → Met (task_most k t rs ls (b + 1) 0) w ends counts tasks n n''
+      → ms ≡ (block t b).references → live ≡ ls b → Met (task_most k t rs ls b 0) ends tasks n n'
+      → Met (block_most k ms live (rows_before k blocks set rs b)) ends tasks n' n'' → Met (task_most k t rs ls (b + 1) 0) ends tasks n n''
   met_unmasked b blocks set {ms} {live = live} u eb es em el =
-      met_more w ends counts tasks (task_most k t rs ls (b + 1) 0)
+      met_more ends tasks (task_most k t rs ls (b + 1) 0)
       (λ fs. task_more b fs ∙ ap (max (task_most k t rs ls b 0 fs)) (ap (λ (s : Bool). cond s (here fs) 0) u ∙ sym (same fs)))
     where
       here : List (List ℕ) → ℕ
@@ -163,9 +158,9 @@ module _ (w : ℕ) (ends counts : List ℕ) (tasks : ℕ) (k : Cache) (t : Task)
       same : (fs : List (List ℕ)) → block_most k ms live (rows_before k blocks set rs b) fs ≡ here fs
       same fs = rw (eb, es, em, el)
 
-  pub met_masked : (b : ℕ) {n n' : List ℕ} → unmasked t b ≡ false → Met (task_most k t rs ls b 0) w ends counts tasks n n' → Met (task_most k t rs ls (b + 1) 0) w ends counts tasks n n'
+  pub met_masked : (b : ℕ) {n n' : List ℕ} → unmasked t b ≡ false → Met (task_most k t rs ls b 0) ends tasks n n' → Met (task_most k t rs ls (b + 1) 0) ends tasks n n'
   met_masked b u =
-      met_same w ends counts tasks
+      met_same ends tasks
       (λ fs. task_more b fs
       ∙ ap (λ (s : Bool). max (task_most k t rs ls b 0 fs) (cond s (block_most k (block t b).references (ls b) (rows_before k (length t) (predecessors_of t b) rs b) fs) 0)) u
       ∙ omega arith)

@@ -28,7 +28,8 @@ use Rattle.points.specs.Points.{rest_of, hits_next}
 use Rattle.points.proofs.DoneRows.{one-done}
 use Rattle.points.proofs.Rests.{rest-long, rest_more}
 use Rattle.row_sets.specs.Sets.{useful_set, replaced_set, replaced_sets}
-use Rattle.pairs.specs.Pairs.{most_common, point_most, ends_of, Met}
+use Rattle.pairs.specs.Pairs.{most_common, point_most, end_rows, Met}
+use Rattle.pairs.specs.declared.ends.Ends.{Ends}
 use Rattle.row_sets.proofs.ReplacedSets.{counts_as}
 use Rattle.pairs.proofs.Bounds.{over_ends_lem}
 use Rattle.pairs.proofs.Meeting.{met_none, met_same}
@@ -254,12 +255,12 @@ up_to f i =
 -- ---- the numbers
 
 -- they become right when a point is met too: `most` is that of the point
-pub record Lags (most all : List (List ℕ) → ℕ) (w : ℕ) (ends counts : List ℕ) (tasks : ℕ) (old new : List ℕ) : Type 0 where
+pub record Lags (most all : List (List ℕ) → ℕ) (ends : Ends) (tasks : ℕ) (old new : List ℕ) : Type 0 where
   pub long : length new ≡ length old
-  pub each : (j : ℕ) → j < tasks → max (get_or new j 0) (most (ends_of w ends counts j)) ≡ max (get_or old j 0) (all (ends_of w ends counts j))
+  pub each : (j : ℕ) → j < tasks → max (get_or new j 0) (most (end_rows ends j)) ≡ max (get_or old j 0) (all (end_rows ends j))
   pub rest : (j : ℕ) → tasks ≤ j → get_or new j 0 ≡ get_or old j 0
 
-module _ (w : ℕ) (ends counts : List ℕ) (tasks : ℕ) (k : Cache) (ms row : List ℕ) (ls : List (List ℕ)) where
+module _ (ends : Ends) (tasks : ℕ) (k : Cache) (ms row : List ℕ) (ls : List (List ℕ)) where
   abbrev at_point : ℕ → List (List ℕ) → ℕ
   at_point d fs = done_most k ms ls row fs d
 
@@ -269,37 +270,37 @@ module _ (w : ℕ) (ends counts : List ℕ) (tasks : ℕ) (k : Cache) (ms row : 
   -- the numbers before the reference numbered i is done. `rising`: the point after it may be the best, and they become right when it is met.
   -- Else they are right, and stay right with the point after it
   abbrev pub SoFar : Bool → ℕ → List ℕ → List ℕ → Type 0
-  SoFar true i old new = (i < length ms) × Lags (at_point (i + 1)) (up_to_point (i + 1)) w ends counts tasks old new
-  SoFar false i old new = Met (up_to_point i) w ends counts tasks old new × (i < length ms → Met (up_to_point (i + 1)) w ends counts tasks old new)
+  SoFar true i old new = (i < length ms) × Lags (at_point (i + 1)) (up_to_point (i + 1)) ends tasks old new
+  SoFar false i old new = Met (up_to_point i) ends tasks old new × (i < length ms → Met (up_to_point (i + 1)) ends tasks old new)
 
   -- no reference is done yet
   pub none_so_far : (old : List ℕ) (b : Bool) → ltb 0 (length ms) ≡ b → SoFar b 0 old old
   none_so_far old true q = (
     ltb-true 0 (length ms) q,
-    record { long = refl; each = λ j h. omega (arith, up_to (done_most k ms ls row (ends_of w ends counts j)) 0); rest = λ j h. refl },
+    record { long = refl; each = λ j h. omega (arith, up_to (done_most k ms ls row (end_rows ends j)) 0); rest = λ j h. refl },
   )
-  none_so_far old false q = (met_none w ends counts (up_to_point 0) tasks old (λ fs. refl), λ h. absurd (omega (arith, h, ltb-false 0 (length ms) q)))
+  none_so_far old false q = (met_none ends (up_to_point 0) tasks old (λ fs. refl), λ h. absurd (omega (arith, h, ltb-false 0 (length ms) q)))
 
   -- all are done
-  pub all_so_far : {old new : List ℕ} (i : ℕ) (b : Bool) → length ms ≤ i → SoFar b i old new → Met (up_to_point i) w ends counts tasks old new
+  pub all_so_far : {old new : List ℕ} (i : ℕ) (b : Bool) → length ms ≤ i → SoFar b i old new → Met (up_to_point i) ends tasks old new
   all_so_far i true h s = absurd (omega (arith, h, s.0))
   all_so_far i false h s = s.0
 
   -- the point after the reference numbered i is met
   pub top_met : {old n n' now rest : List ℕ} (i : ℕ) {b : Bool} → b ≡ true → now ≡ with_references k row (take (i + 1) ms) → rest ≡ rest_of k ms (i + 1) → SoFar b i old n
-      → Met (point_most now rest ls) w ends counts tasks n n' → Met (up_to_point (i + 1)) w ends counts tasks old n'
+      → Met (point_most now rest ls) ends tasks n n' → Met (up_to_point (i + 1)) ends tasks old n'
   top_met {old} {n} {n'} {now} {rest} i {b} q e d s p =
       let lag = rising b q s in
       record {
         long = p.long ∙ lag.long;
         each = λ j h.
-            let same : point_most now rest ls (ends_of w ends counts j) ≡ at_point (i + 1) (ends_of w ends counts j)
-            = ap₂ (λ (x y : List ℕ). point_most x y ls (ends_of w ends counts j)) e d in
+            let same : point_most now rest ls (end_rows ends j) ≡ at_point (i + 1) (end_rows ends j)
+            = ap₂ (λ (x y : List ℕ). point_most x y ls (end_rows ends j)) e d in
             omega (arith, p.each j h, lag.each j h, same);
         rest = λ j h. p.rest j h ∙ lag.rest j h;
       }
     where
-      rising : (b : Bool) → b ≡ true → SoFar b i old n → Lags (at_point (i + 1)) (up_to_point (i + 1)) w ends counts tasks old n
+      rising : (b : Bool) → b ≡ true → SoFar b i old n → Lags (at_point (i + 1)) (up_to_point (i + 1)) ends tasks old n
       rising true q s = s.1
       rising false q s = absurd (false≢true q)
 
@@ -308,17 +309,17 @@ module _ (w : ℕ) (ends counts : List ℕ) (tasks : ℕ) (k : Cache) (ms row : 
     next-is h e = ap (λ (r : List ℕ). hits k r (get_or ms (i + 1) 0)) (sym is) ∙ next-hits k now ms (i + 1) h e
 
     -- the numbers are right with the point after the reference numbered i
-    pub right-next : {old new : List ℕ} (top : Bool) → hits_next k now ms (i + 1) ≡ top → Met (up_to_point (i + 1)) w ends counts tasks old new → SoFar (not top) (i + 1) old new
+    pub right-next : {old new : List ℕ} (top : Bool) → hits_next k now ms (i + 1) ≡ top → Met (up_to_point (i + 1)) ends tasks old new → SoFar (not top) (i + 1) old new
     right-next true e met = (
       met,
-      λ h. met_same w ends counts tasks
+      λ h. met_same ends tasks
           (λ fs. omega (arith, up_to (done_most k ms ls row fs) i, up_to (done_most k ms ls row fs) (i + 1), falls k ms row ls fs wide (i + 1) h (next-is h e))) met,
     )
     right-next false e met = (
       next-some k now ms (i + 1) e,
       record {
         long = met.long;
-        each = λ j h. omega (arith, met.each j h, up_to (done_most k ms ls row (ends_of w ends counts j)) (i + 1));
+        each = λ j h. omega (arith, met.each j h, up_to (done_most k ms ls row (end_rows ends j)) (i + 1));
         rest = met.rest;
       },
     )
@@ -333,7 +334,7 @@ module _ (w : ℕ) (ends counts : List ℕ) (tasks : ℕ) (k : Cache) (ms row : 
           record {
             long = lag.long;
             each = λ j l.
-                let fs = ends_of w ends counts j in
+                let fs = end_rows ends j in
                 omega (arith, lag.each j l, up_to (done_most k ms ls row fs) (i + 1), rises k ms row ls fs wide (i + 1) low (real-at ms (i + 1) real low) (next-is low e));
             rest = lag.rest;
           },

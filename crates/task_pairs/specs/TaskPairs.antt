@@ -1,15 +1,16 @@
 -- Document 02, Points 1, 5 and 6: the most cache blocks that are useful in one task and replaced by another, over the points of the one's unmasked
 -- blocks, from gathered rows. Definitions only.
-use Rattle.std.specs.Prelude.{◌≡◌, cond, List, ℕ, zero, suc, ◌*◌, ◌/◌, ◌≤◌, max, length, take}
-use Rattle.cache.specs.declared.blocks.CacheShape.{CacheShape}
-use Rattle.cache.specs.References.{numbers, Real, All}
+use Rattle.std.specs.Prelude.{◌≡◌, cond, List, ℕ, zero, suc, max, length, take}
 use Rattle.cache.specs.Cache.{Cache, Row, with_references}
-use Rattle.cache.specs.Shape.{shaped, Holds}
 use Rattle.model.specs.Lists.{best}
 use Rattle.model.specs.Tasks.{Task, block}
 use Rattle.model.specs.Computed.{dones, unmasked}
 use Rattle.points.specs.Points.{rest_of, Rests, predecessors_of, rows_before}
-use Rattle.pairs.specs.Pairs.{point_most, EndRows}
+use Rattle.pairs.specs.Pairs.{point_most}
+use Rattle.pairs.specs.declared.ends.Ends.{Ends}
+use Rattle.pairs.specs.declared.lives.Lives.{Lives}
+use Rattle.block_rows.specs.BlockRows.{cache_of, references_of}
+use Rattle.block_rows.specs.declared.block.Block.{Block}
 
 -- at the point where d of the references ms of a block are done, for a row before the block, the live rows ls of the block and the end rows fs
 abbrev pub done_most : Cache → List ℕ → List Row → Row → List Row → ℕ → ℕ
@@ -29,13 +30,8 @@ task_most k t rs ls zero b fs = 0
 task_most k t rs ls (suc left) b fs =
     max (cond (unmasked t b) (block_most k (block t b).references (ls b) (rows_before k (length t) (predecessors_of t b) rs b) fs) 0) (task_most k t rs ls left (suc b) fs)
 
--- what the points of a block are met by: its references, which are memory blocks, the rest rows of them, its live rows side by side, and the end rows
--- of each task, in rows of w numbers
-pub record PointRows (w : ℕ) (shape : CacheShape) (references rests lanes : List ℕ) (lived : ℕ) (ends counts mixed : List ℕ) (tasks : ℕ) : Type 0 where
-  pub holds : Holds w shape
-  pub few : length references / 2 ≤ 16
-  pub real : All Real (numbers references)
-  pub left : Rests (shaped w shape) (numbers references) rests
-  pub long : length lanes ≡ 32 * w
-  pub lives : lived ≤ 32
-  pub ended : EndRows w ends counts mixed tasks
+-- the points of a block: the rest rows of its references, its live rows and the end rows of each task, all in rows as wide as the block's
+pub record PointRows (block : Block) (rests : List ℕ) (lives : Lives) (ends : Ends) : Type 0 where
+  pub left : Rests (cache_of block) (references_of block) rests
+  pub live_wide : lives.w ≡ block.w
+  pub ends_wide : ends.w ≡ block.w

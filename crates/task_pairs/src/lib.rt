@@ -2,56 +2,58 @@
 #![tactic(auto)]
 
 ghost use Rattle.std.specs.Prelude.{◌≡◌, true, ◌*◌, ◌/◌, ◌≤◌, ◌<◌, length};
-ghost use Rattle.cache.specs.References.{numbers as references_in, Real, All};
 ghost use Rattle.cache.specs.Cache.{with_references};
 ghost use Rattle.cache.specs.Shape.{shaped, Holds};
 ghost use Rattle.model.specs.Lists.{best};
 ghost use Rattle.model.specs.Computed.{up_from};
 ghost use Rattle.body.specs.Decode.{decode, task_of};
 ghost use Rattle.body.specs.Walk.{kept_of};
-ghost use Rattle.rows.specs.Rows.{rows_of};
-ghost use Rattle.gather.specs.Memory.{Memory, held_rows};
 ghost use Rattle.points.specs.Points.{rows_in, rows_before};
-ghost use Rattle.row_sets.specs.Lanes.{lane_rows};
-ghost use Rattle.pairs.specs.Pairs.{EndRows, Met};
+ghost use Rattle.pairs.specs.Pairs.{live_rows, Met};
+ghost use Rattle.block_rows.specs.BlockRows.{cache_of, references_of, rows_by, listed};
 ghost use Rattle.task_pairs.specs.TaskPairs.{done_most, before_most, block_most, task_most, PointRows};
 
+use block_rows::block::Block;
+use block_rows::held::Held;
+use block_rows::row_list::RowList;
 use body::jumps::jumps;
 use body::masks::unmasked_blocks;
 use body::predecessors::predecessors;
-use body::{references, walk};
+use body::{kept_walk, references};
 use cache::blocks::CacheShape;
 use graphs::task_rows::NO_ROWS;
+use pairs::ends::Ends;
+use pairs::lives::Lives;
 use pairs::numbers::meet_point;
 use points::done::{hits_next, refer_row};
 use points::left::rests;
 use row_sets::lanes::lay_lanes;
 use rows::copy_row;
 
+// The points of a block: the rest row numbered d is that of the first references of what is left after d of them, and the live rows are those of the
+// block. They are met by the end rows of each task.
+#[derive(Clone, Copy)]
+struct Points<'a> {
+    block: Block<'a>,
+    rests: &'a [u16],
+    lives: Lives<'a>,
+    ends: Ends<'a>,
+    ghost are: { PointRows block rests.now lives ends },
+}
+
 // The points of a block after each of its references are met, for the row before the block; in the end the row is that after all of them.
 // A point before a miss has no more than the one after it, and a point after a hit no more than the one before it: these are passed over. `rising` tells
 // that the next reference misses, or that none is done yet, and `top` that the one after it hits, or that there is none.
-fn meet_done(
-    row: &mut [u16],
-    references: &[u8],
-    shape: CacheShape,
-    w: usize,
-    rests: &[u16],
-    lanes: &[u16],
-    lived: usize,
-    ends: &[u16],
-    counts: &[usize],
-    mixed: &[u32],
-    tasks: usize,
-    numbers: &mut [u16],
-)
-    requires { PointRows w shape references.now rests.now lanes.now lived ends.now counts.now mixed.now tasks
-        × (length row.old ≡ w) × (length numbers.old ≡ 8) }
-    ensures { (row.new ≡ with_references (shaped w shape) row.old (references_in references.now))
-        × Met (λ fs. best (done_most (shaped w shape) (references_in references.now) (lane_rows w lived lanes.now) row.old fs)
-        (up_from 1 (length references.now / 2)))
-        w ends.now counts.now tasks numbers.old numbers.new }
+fn meet_done(row: &mut [u16], points: &Points, numbers: &mut [u16])
+    requires { (length row.old ≡ points.now.block.w) × (length numbers.old ≡ 8) }
+    ensures { (row.new ≡ with_references (cache_of points.now.block) row.old (references_of points.now.block))
+        × Met (λ fs. best (done_most (cache_of points.now.block) (references_of points.now.block) (live_rows points.now.lives) row.old fs)
+        (up_from 1 (length points.now.block.references.now / 2)))
+        points.now.ends points.now.ends.tasks numbers.old numbers.new }
 {
+    let references = points.block.references;
+    let shape = points.block.shape;
+    let w = points.block.w;
     let count = references.len() / 2;
     let mut rising = 0 < count;
     for i in 0..count {
@@ -61,13 +63,9 @@ fn meet_done(
             let at = w * (i + 1);
             meet_point(
                 row,
-                &rests[at..at + w],
-                lanes,
-                lived,
-                ends,
-                counts,
-                mixed,
-                tasks,
+                &points.rests[at..at + w],
+                &points.lives,
+                &points.ends,
                 numbers,
             );
         }
@@ -76,302 +74,130 @@ fn meet_done(
 }
 
 // All points of a block are met, for a row before it: after each reference, or the one point of a block that has none.
-fn meet_before(
-    row: &[u16],
-    references: &[u8],
-    shape: CacheShape,
-    w: usize,
-    rests: &[u16],
-    lanes: &[u16],
-    lived: usize,
-    ends: &[u16],
-    counts: &[usize],
-    mixed: &[u32],
-    tasks: usize,
-    numbers: &mut [u16],
-)
-    requires { PointRows w shape references.now rests.now lanes.now lived ends.now counts.now mixed.now tasks
-        × (length row.now ≡ w) × (length numbers.old ≡ 8) }
-    ensures { Met (before_most (shaped w shape) (references_in references.now) (lane_rows w lived lanes.now) row.now)
-        w ends.now counts.now tasks numbers.old numbers.new }
+fn meet_before(row: &[u16], points: &Points, numbers: &mut [u16])
+    requires { (length row.now ≡ points.now.block.w) × (length numbers.old ≡ 8) }
+    ensures { Met (before_most (cache_of points.now.block) (references_of points.now.block) (live_rows points.now.lives) row.now)
+        points.now.ends points.now.ends.tasks numbers.old numbers.new }
 {
-    if references.len() < 2 {
+    let w = points.block.w;
+    if points.block.references.len() < 2 {
         meet_point(
             row,
-            &rests[0..w],
-            lanes,
-            lived,
-            ends,
-            counts,
-            mixed,
-            tasks,
+            &points.rests[0..w],
+            &points.lives,
+            &points.ends,
             numbers,
         );
         return;
     }
     let mut done = [0u16; 32];
     copy_row(row, &mut done[0..w]);
-    meet_done(
-        &mut done[0..w],
-        references,
-        shape,
-        w,
-        rests,
-        lanes,
-        lived,
-        ends,
-        counts,
-        mixed,
-        tasks,
-        numbers,
-    );
+    meet_done(&mut done[0..w], points, numbers);
 }
 
-// The same for the first `count` rows.
-fn meet_rows(
-    rows: &[u16],
-    count: usize,
-    references: &[u8],
-    shape: CacheShape,
-    w: usize,
-    rests: &[u16],
-    lanes: &[u16],
-    lived: usize,
-    ends: &[u16],
-    counts: &[usize],
-    mixed: &[u32],
-    tasks: usize,
-    numbers: &mut [u16],
-)
-    requires { PointRows w shape references.now rests.now lanes.now lived ends.now counts.now mixed.now tasks
-        × (length rows.now ≡ 32 * w) × (count ≤ 32) × (length numbers.old ≡ 8) }
-    ensures { Met (block_most (shaped w shape) (references_in references.now) (lane_rows w lived lanes.now)
-        (rows_of w count rows.now))
-        w ends.now counts.now tasks numbers.old numbers.new }
+// The same for each row of a list.
+fn meet_rows(list: &RowList, points: &Points, numbers: &mut [u16])
+    requires { (list.now.w ≡ points.now.block.w) × (length numbers.old ≡ 8) }
+    ensures { Met (block_most (cache_of points.now.block) (references_of points.now.block) (live_rows points.now.lives) (listed list.now))
+        points.now.ends points.now.ends.tasks numbers.old numbers.new }
 {
-    for k in 0..count {
+    let w = list.w;
+    for k in 0..list.count {
         let at = w * k;
-        meet_before(
-            &rows[at..at + w],
-            references,
-            shape,
-            w,
-            rests,
-            lanes,
-            lived,
-            ends,
-            counts,
-            mixed,
-            tasks,
-            numbers,
-        );
+        meet_before(&list.rows[at..at + w], points, numbers);
     }
 }
 
-// The same for the reaching rows of each of the blocks that is in the set, which are those before the block.
-fn meet_entering(
-    blocks: usize,
-    set: u32,
-    reaching: &[u16],
-    reached: &[usize],
-    references: &[u8],
-    shape: CacheShape,
-    w: usize,
-    rests: &[u16],
-    lanes: &[u16],
-    lived: usize,
-    ends: &[u16],
-    counts: &[usize],
-    mixed: &[u32],
-    tasks: usize,
-    numbers: &mut [u16],
-)
-    requires { PointRows w shape references.now rests.now lanes.now lived ends.now counts.now mixed.now tasks
-        × (blocks ≤ 24) × Memory w reaching.now reached.now × (length numbers.old ≡ 8) }
-    ensures { Met (block_most (shaped w shape) (references_in references.now) (lane_rows w lived lanes.now)
-        (rows_in set (held_rows w reaching.now reached.now) blocks 0))
-        w ends.now counts.now tasks numbers.old numbers.new }
+// The same for the reaching rows of each of the blocks that lead to the block, which are those before it.
+fn meet_entering(reaching: &Held, points: &Points, numbers: &mut [u16])
+    requires { (reaching.now.w ≡ points.now.block.w) × (length numbers.old ≡ 8) }
+    ensures { Met (block_most (cache_of points.now.block) (references_of points.now.block) (live_rows points.now.lives)
+        (rows_in points.now.block.before (rows_by reaching.now) points.now.block.blocks 0))
+        points.now.ends points.now.ends.tasks numbers.old numbers.new }
 {
-    let part = 32 * w;
-    for p in 0..blocks {
+    let set = points.block.before;
+    for p in 0..points.block.blocks {
         if set & (1 << p) != 0 {
-            let at = part * p;
-            meet_rows(
-                &reaching[at..at + part],
-                reached[p],
-                references,
-                shape,
-                w,
-                rests,
-                lanes,
-                lived,
-                ends,
-                counts,
-                mixed,
-                tasks,
-                numbers,
-            );
+            meet_rows(&reaching.of_block(p), points, numbers);
         }
     }
 }
 
-// The points of the block b are met, for each row before it: the empty row before block 0, and the reaching rows of its predecessors, which are the
-// blocks of the set. The live rows of the block lie side by side.
-fn meet_lanes(
-    b: usize,
-    blocks: usize,
-    set: u32,
-    reaching: &[u16],
-    reached: &[usize],
-    references: &[u8],
-    shape: CacheShape,
-    w: usize,
-    lanes: &[u16],
-    lived: usize,
-    ends: &[u16],
-    counts: &[usize],
-    mixed: &[u32],
-    tasks: usize,
-    numbers: &mut [u16],
-)
-    requires { Holds w shape × (length references.now / 2 ≤ 16) × All Real (references_in references.now) × (length lanes.now ≡ 32 * w) × (lived ≤ 32)
-        × EndRows w ends.now counts.now mixed.now tasks × (blocks ≤ 24) × Memory w reaching.now reached.now × (length numbers.old ≡ 8) }
-    ensures { Met (block_most (shaped w shape) (references_in references.now) (lane_rows w lived lanes.now)
-        (rows_before (shaped w shape) blocks set (held_rows w reaching.now reached.now) b))
-        w ends.now counts.now tasks numbers.old numbers.new }
+// The points of the block are met, for each row before it: the empty row before block 0, and the reaching rows of its predecessors. The live rows of the
+// block lie side by side.
+fn meet_lanes(block: &Block, reaching: &Held, lives: &Lives, ends: &Ends, numbers: &mut [u16])
+    requires { (reaching.now.w ≡ block.now.w) × (lives.now.w ≡ block.now.w) × (ends.now.w ≡ block.now.w) × (length numbers.old ≡ 8) }
+    ensures { Met (block_most (cache_of block.now) (references_of block.now) (live_rows lives.now)
+        (rows_before (cache_of block.now) block.now.blocks block.now.before (rows_by reaching.now) block.now.number))
+        ends.now ends.now.tasks numbers.old numbers.new }
 {
+    let w = block.w;
     let room = 17 * w;
     let mut left = [0u16; 544];
-    rests(references, shape, w, &mut left[0..room]);
-    if b == 0 {
-        meet_before(
-            &NO_ROWS[0..w],
-            references,
-            shape,
-            w,
-            &left[0..room],
-            lanes,
-            lived,
-            ends,
-            counts,
-            mixed,
-            tasks,
-            numbers,
-        );
+    rests(block.references, block.shape, w, &mut left[0..room]);
+    let points = Points {
+        block: *block,
+        rests: &left[0..room],
+        lives: *lives,
+        ends: *ends,
+    };
+    if block.number == 0 {
+        meet_before(&NO_ROWS[0..w], &points, numbers);
     }
-    meet_entering(
-        blocks,
-        set,
-        reaching,
-        reached,
-        references,
-        shape,
-        w,
-        &left[0..room],
-        lanes,
-        lived,
-        ends,
-        counts,
-        mixed,
-        tasks,
-        numbers,
-    );
+    meet_entering(reaching, &points, numbers);
 }
 
 // The same, for live rows one after the other.
-fn meet_block(
-    b: usize,
-    blocks: usize,
-    set: u32,
-    reaching: &[u16],
-    reached: &[usize],
-    references: &[u8],
-    shape: CacheShape,
-    w: usize,
-    live: &[u16],
-    lived: usize,
-    ends: &[u16],
-    counts: &[usize],
-    mixed: &[u32],
-    tasks: usize,
-    numbers: &mut [u16],
-)
-    requires { Holds w shape × (length references.now / 2 ≤ 16) × All Real (references_in references.now) × (length live.now ≡ 32 * w) × (lived ≤ 32)
-        × EndRows w ends.now counts.now mixed.now tasks × (blocks ≤ 24) × Memory w reaching.now reached.now × (length numbers.old ≡ 8) }
-    ensures { Met (block_most (shaped w shape) (references_in references.now) (rows_of w lived live.now)
-        (rows_before (shaped w shape) blocks set (held_rows w reaching.now reached.now) b))
-        w ends.now counts.now tasks numbers.old numbers.new }
+fn meet_block(block: &Block, reaching: &Held, live: &Held, ends: &Ends, numbers: &mut [u16])
+    requires { (block.now.number < 24) × (reaching.now.w ≡ block.now.w) × (live.now.w ≡ block.now.w) × (ends.now.w ≡ block.now.w)
+        × (length numbers.old ≡ 8) }
+    ensures { Met (block_most (cache_of block.now) (references_of block.now) (rows_by live.now block.now.number)
+        (rows_before (cache_of block.now) block.now.blocks block.now.before (rows_by reaching.now) block.now.number))
+        ends.now ends.now.tasks numbers.old numbers.new }
 {
-    let all = 32 * w;
+    let list = live.of_block(block.number);
+    let all = 32 * list.w;
     let mut lanes = [0u16; 1024];
-    lay_lanes(live, lived, w, &mut lanes[0..all]);
-    meet_lanes(
-        b,
-        blocks,
-        set,
-        reaching,
-        reached,
-        references,
-        shape,
-        w,
-        &lanes[0..all],
-        lived,
-        ends,
-        counts,
-        mixed,
-        tasks,
-        numbers,
-    );
+    lay_lanes(list.rows, list.count, list.w, &mut lanes[0..all]);
+    let lives = Lives {
+        w: list.w,
+        lanes: &lanes[0..all],
+        count: list.count,
+    };
+    meet_lanes(block, reaching, &lives, ends, numbers);
 }
 
-// The points of the unmasked blocks of the task of a body are met by the end rows of each task; `reached` and `lived` tell how many rows, of w numbers
-// each, a block has, and `counts` how many end rows a task has.
+// The points of the unmasked blocks of the task of a body are met by the end rows of each task, given the reaching and the live rows of each block.
 pub fn meet_task(
     body: &[u8],
     shape: CacheShape,
-    w: usize,
-    reaching: &[u16],
-    reached: &[usize],
-    live: &[u16],
-    lived: &[usize],
-    ends: &[u16],
-    counts: &[usize],
-    mixed: &[u32],
-    tasks: usize,
+    reaching: &Held,
+    live: &Held,
+    ends: &Ends,
     numbers: &mut [u16],
 )
-    requires { (kept_of (decode body.now) ≡ true) × Holds w shape × Memory w reaching.now reached.now × Memory w live.now lived.now
-        × EndRows w ends.now counts.now mixed.now tasks × (length numbers.old ≡ 8) }
-    ensures { Met (task_most (shaped w shape) (task_of (decode body.now)) (held_rows w reaching.now reached.now)
-        (held_rows w live.now lived.now) (length (task_of (decode body.now))) 0)
-        w ends.now counts.now tasks numbers.old numbers.new }
+    requires { (kept_of (decode body.now) ≡ true) × Holds ends.now.w shape × (reaching.now.w ≡ ends.now.w) × (live.now.w ≡ ends.now.w)
+        × (length numbers.old ≡ 8) }
+    ensures { Met (task_most (shaped ends.now.w shape) (task_of (decode body.now)) (rows_by reaching.now) (rows_by live.now)
+        (length (task_of (decode body.now))) 0)
+        ends.now ends.now.tasks numbers.old numbers.new }
 {
-    let walked = walk(body);
+    let walked = kept_walk(body);
     let blocks = walked.blocks;
     let starts = walked.starts;
-    let before = predecessors(jumps(body, walked), blocks);
+    let before = predecessors(jumps(&walked), blocks);
     let unmasked = unmasked_blocks(body);
-    let part = 32 * w;
     for b in 0..blocks {
         if unmasked & (1 << b) != 0 {
-            let at = part * b;
-            meet_block(
-                b,
+            let block = Block {
+                number: b,
                 blocks,
-                before[b],
-                reaching,
-                reached,
-                references(body, starts[b]),
+                before: before[b],
+                references: references(body, starts[b]),
                 shape,
-                w,
-                &live[at..at + part],
-                lived[b],
-                ends,
-                counts,
-                mixed,
-                tasks,
-                numbers,
-            );
+                w: ends.w,
+            };
+            meet_block(&block, reaching, live, ends, numbers);
         }
     }
 }

@@ -27,6 +27,11 @@ pub record Places (trails : List ℕ) : Type 0 where
   pub long : length trails ≡ 1536
   pub inside : (at : ℕ) → at < 768 → parent_at trails at < 768
 
+-- one of its places
+pub record IsPlace (trails : List ℕ) (at : ℕ) : Type 0 where
+  pub places : Places trails
+  pub inside : at < 768
+
 -- the blocks of a trail of n blocks, from the block of the place back to the block where it began
 abbrev pub way_back : ℕ → List ℕ → ℕ → List ℕ
 way_back zero trails at = []

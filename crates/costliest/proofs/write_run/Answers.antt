@@ -1,6 +1,7 @@
 -- `costliest::write_run` meets its contract: the run that the trails of the found rows join to costs the pair number. Assumes nothing.
-use mathlib.Core.Path.{◌≡◌, refl, sym, ap, ◌∙◌}
+use mathlib.Core.Path.{◌≡◌, refl, ap, ◌∙◌}
 use mathlib.Core.Logic.{◌≢◌}
+use mathlib.Core.List.{◌++◌}
 use Prim.Native.Nat.{ℕ, ◌+◌, ◌*◌, ◌-◌, ◌≤◌, ◌<◌}
 use native.Mathlib.Omega.{arith}
 use lib.Dec.{ltb}
@@ -18,7 +19,10 @@ use Rattle.reader.proofs.TaskBodies.{task-body, task-bounds, body_kept, body-tas
 use Rattle.body.proofs.Decoded.{few-references}
 use Rattle.search.proofs.FoundNumbers.{MakesNumber}
 use Rattle.gather.specs.Memory.{held_rows}
-use Rattle.run_sheet.specs.Joined.{HasTrail, HasTrailBefore}
+use Rattle.sheet.specs.Sheet.{SheetRun, sheet_numbers}
+use Rattle.run_sheet.specs.Joined.{HasTrail}
+use Rattle.costliest.specs.Parts.{HasTrailBefore}
+use Rattle.costliest.proofs.PartsLaws.{joined_is, joins}
 use Rattle.costliest.proofs.CostliestVerdicts.{two_tasks}
 use Rattle.costliest.proofs.FoundRows.{all_bytes, file-found, cut_part, few_tasks}
 use Rattle.costliest.proofs.CostliestRuns.{has_before, has_on, has_by, written_run}
@@ -52,47 +56,36 @@ end-room c =
 narrow : (c : After-block_count-end) → (length c.args.second.now ≡ area_length c.args.w) × (c.args.w ≤ 32)
 narrow c = (c.requires.6.rows.long, (c.requires.6.reaching refl).memory.width.narrow)
 
-pub task_body-body-requires : goal.task_body-body-requires
-task_body-body-requires c = (c.requires.0, (two (goal.at.task_body-body-requires c).Start).0)
-
-pub task_body-requires : goal.task_body-requires
-task_body-requires c = (c.requires.0, (two (goal.at.task_body-requires c).Start).1)
-
 pub block_count-end-requires : goal.block_count-end-requires
 block_count-end-requires c =
     let start = c in
     let s = start.args.file.now in
     body_kept s start.args.j (task-body s start.requires.0 start.args.j (two (goal.at.block_count-end-requires c).Start).1) c.task_body.ensures.0
 
-pub overflow_mul-part : goal.overflow_mul-part
-overflow_mul-part c = omega (arith, narrow c)
-
-pub overflow_mul-at : goal.overflow_mul-at
-overflow_mul-at c = omega (arith, end-room c, narrow c)
-
-pub overflow_add-at : goal.overflow_add-at
-overflow_add-at c = omega (arith, end-room (goal.at.overflow_add-at c).After-block_count-end, narrow (goal.at.overflow_add-at c).After-block_count-end)
-
-pub offset_bounds-second-at : goal.offset_bounds-second-at
-offset_bounds-second-at c = omega (arith, end-room (goal.at.offset_bounds-second-at c).After-block_count-end, narrow (goal.at.offset_bounds-second-at c).After-block_count-end)
-
-pub slice_bounds-find_rows-end : goal.slice_bounds-find_rows-end
-slice_bounds-find_rows-end c = omega (arith, end-room (goal.at.slice_bounds-find_rows-end c).After-block_count-end)
+pub invariant_of-ends : goal.invariant_of-ends
+invariant_of-ends c =
+    let w = c.args.w in
+    let end = c.block_count-end.result - 1 in
+    let from = 32 * w * end in
+    let memory = (c.requires.6.reaching refl).memory in
+    record {
+      are = record {
+        width = memory.width;
+        long = ap length (cut_part (32 * w) from c.args.second.now)
+            ∙ length-take-le (32 * w) (drop from c.args.second.now)
+            (rw (length-drop from c.args.second.now) (omega (arith, end-room (goal.at.invariant_of-ends c).After-block_count-end)));
+        few = memory.few end (omega (arith, c.block_count-end.ensures.1, c.block_count-end.ensures.2));
+      };
+    }
 
 pub find_rows-found-requires : goal.find_rows-found-requires
 find_rows-found-requires c =
-    let e = c in
-    let start = c in
-    let s = start.args.file.now in
-    let w = start.args.w in
-    let from = 32 * w * (e.block_count-end.result - 1) in (
-      body_kept s start.args.i (task-body s start.requires.0 start.args.i (two (goal.at.find_rows-found-requires c).Start).0) c.task_body-body.ensures.0,
-      start.requires.2,
-      start.requires.5.rows.long,
-      (start.requires.5.reaching refl).memory,
-      (start.requires.5.live refl).memory,
-      ap length (cut_part (32 * w) from start.args.second.now) ∙ length-take-le (32 * w) (drop from start.args.second.now) (rw (length-drop from start.args.second.now) (omega (arith, end-room (goal.at.find_rows-found-requires c).After-block_count-end))),
-      (start.requires.6.reaching refl).memory.few (e.block_count-end.result - 1) (omega (arith, e.block_count-end.ensures.1, e.block_count-end.ensures.2)),
+    let s = c.args.file.now in (
+      body_kept s c.args.i (task-body s c.requires.0 c.args.i (two (goal.at.find_rows-found-requires c).Start).0) c.task_body-body.ensures.0,
+      c.requires.2,
+      c.requires.5.rows.long,
+      (c.requires.5.reaching refl).memory,
+      (c.requires.5.live refl).memory,
     )
 
 -- each number of the file is a byte
@@ -146,54 +139,63 @@ few-done c =
     let t = task (tasks_of s) start.args.i in
     omega (arith, (makes c).few, few-references t (task-bounds s start.args.i start.requires.0 ((let here : (c.args.i < task_count c.args.file.now) × (c.args.j < task_count c.args.file.now) × (c.args.j ≢ c.args.i) = two_tasks (task_count c.args.file.now) c.args.i c.args.j c.requires.3 in here)).0) c.find_rows-found.result.point.block)
 
-pub overflow_cast-i : goal.overflow_cast-i
-overflow_cast-i c = omega (arith, (two (goal.at.overflow_cast-i c).Start).0, few_tasks c.args.file.now c.requires.0)
-
 pub overflow_cast-j : goal.overflow_cast-j
 overflow_cast-j c = omega (arith, (two (goal.at.overflow_cast-j c).Start).1, few_tasks c.args.file.now c.requires.0)
 
-pub slice_bounds-write_sheet-end : goal.slice_bounds-write_sheet-end
-slice_bounds-write_sheet-end c = sym c.requires.5.to_long
+pub slice_bounds-ends-end : goal.slice_bounds-ends-end
+slice_bounds-ends-end c = omega (arith, end-room (goal.at.slice_bounds-ends-end c).After-block_count-end)
 
-pub overflow_mul-point : goal.overflow_mul-point
-overflow_mul-point c = omega (arith, (before-has (goal.at.overflow_mul-point c).After-find_rows-found).inside)
+pub overflow_mul-on : goal.overflow_mul-on
+overflow_mul-on c = omega (arith, (on-has (goal.at.overflow_mul-on c).After-find_rows-found).inside)
 
-pub overflow_add-point : goal.overflow_add-point
-overflow_add-point c = omega (arith, (before-has (goal.at.overflow_add-point c).After-find_rows-found).inside)
+pub overflow_add-on : goal.overflow_add-on
+overflow_add-on c = omega (arith, (on-has (goal.at.overflow_add-on c).After-find_rows-found).inside)
 
-pub overflow_cast-point : goal.overflow_cast-point
-overflow_cast-point c = omega (arith, few-done (goal.at.overflow_cast-point c).After-find_rows-found)
+pub overflow_add-by : goal.overflow_add-by
+overflow_add-by c =
+    omega (arith, (by-has (goal.at.overflow_add-by c).After-find_rows-found).inside, end_is (goal.at.overflow_add-by c).After-block_count-end)
 
-pub slice_bounds-write_sheet-end-2 : goal.slice_bounds-write_sheet-end-2
-slice_bounds-write_sheet-end-2 c = sym c.requires.5.on_long
+pub invariant_of-on : goal.invariant_of-on
+invariant_of-on c = let has = on-has (goal.at.invariant_of-on c).After-find_rows-found in record { is = record { places = has.places; inside = has.inside } }
 
-pub overflow_mul-point-2 : goal.overflow_mul-point-2
-overflow_mul-point-2 c = omega (arith, (on-has (goal.at.overflow_mul-point-2 c).After-find_rows-found).inside)
+pub invariant_of-by : goal.invariant_of-by
+invariant_of-by c =
+    let has = by-has (goal.at.invariant_of-by c).After-find_rows-found in
+    record { is = record { places = has.places; inside = rw (end_is (goal.at.invariant_of-by c).After-block_count-end) has.inside } }
 
-pub overflow_add-point-2 : goal.overflow_add-point-2
-overflow_add-point-2 c = omega (arith, (on-has (goal.at.overflow_add-point-2 c).After-find_rows-found).inside)
+pub place_before-before-requires : goal.place_before-before-requires
+place_before-before-requires c =
+    let has = before-has (goal.at.place_before-before-requires c).After-find_rows-found in
+    record { places = has.places; inside = has.inside }
 
-pub slice_bounds-write_sheet-end-3 : goal.slice_bounds-write_sheet-end-3
-slice_bounds-write_sheet-end-3 c = sym c.requires.6.to_long
-
-pub overflow_mul-end : goal.overflow_mul-end
-overflow_mul-end c = omega (arith, end_is (goal.at.overflow_mul-end c).After-block_count-end, (by-has (goal.at.overflow_mul-end c).After-find_rows-found).inside)
-
-pub overflow_add-end : goal.overflow_add-end
-overflow_add-end c = omega (arith, (by-has (goal.at.overflow_add-end c).After-find_rows-found).inside, end_is (goal.at.overflow_add-end c).After-block_count-end)
+pub preemption_at-preemption-requires : goal.preemption_at-preemption-requires
+preemption_at-preemption-requires c = few-done (goal.at.preemption_at-preemption-requires c).After-find_rows-found
 
 pub write_sheet-requires : goal.write_sheet-requires
 write_sheet-requires c =
-    let e = c in
-    (before-has (goal.at.write_sheet-requires c).After-find_rows-found, on-has (goal.at.write_sheet-requires c).After-find_rows-found, rw (end_is (goal.at.write_sheet-requires c).After-block_count-end) (by-has (goal.at.write_sheet-requires c).After-find_rows-found), e.requires.4)
+    let found = (goal.at.write_sheet-requires c).After-find_rows-found in
+    let x = c.find_rows-found.result in
+    let end = end_is (goal.at.write_sheet-requires c).After-block_count-end in (
+      joins _ (ltb 0 x.cost) c.args.j x.point.first c.args.own.to (32 * x.point.before + x.point.reaching) x.point.done c.args.other.to
+          (32 * (c.block_count-end.result - 1) + x.ending) c.place_before-before.ensures c.preemption_at-preemption.ensures
+          (before-has found) (on-has found) (rw end (by-has found)),
+      c.requires.4,
+    )
 
 pub returns : goal.returns
 returns c =
-    let e = c in
-    let start = e in
-    let s = start.args.file.now in
+    let at = (goal.at.returns c).After-find_rows-found in
+    let s = c.args.file.now in
+    let x = c.find_rows-found.result in
     let (hi, hj, ne) = two (goal.at.returns c).Start in
-    let counted = e in
-    written_run s (bytes (goal.at.returns c).After-find_rows-found) start.requires.0 start.args.w (room (goal.at.returns c).Start) start.args.i start.args.j hi hj ne (start.requires.5.reaching refl) (start.requires.5.live refl) (start.requires.6.reaching refl) e.find_rows-found.result (makes (goal.at.returns c).After-find_rows-found)
-    (ltb 0 e.find_rows-found.result.cost) refl (32 * (counted.block_count-end.result - 1) + e.find_rows-found.result.ending) (ap (λ (n : ℕ). 32 * n + e.find_rows-found.result.ending) (end_is (goal.at.returns c).After-block_count-end)) c.write_sheet.ensures.0
-    c.write_sheet.ensures.1
+    let preempted = ltb 0 x.cost in
+    let final = 32 * (c.block_count-end.result - 1) + x.ending in
+    let written = c.write_sheet in
+    let is = joined_is preempted c.args.i c.args.j x.point.first c.args.own.to (32 * x.point.before + x.point.reaching) x.point.done c.args.own.on
+    (32 * x.point.block + x.live) c.args.other.to final c.place_before-before.result c.preemption_at-preemption.result
+    c.place_before-before.ensures c.preemption_at-preemption.ensures in
+    let old = c.args.sheet.now in
+    written_run s (bytes at) c.requires.0 c.args.w (room (goal.at.returns c).Start) c.args.i c.args.j hi hj ne (c.requires.5.reaching refl) (c.requires.5.live refl)
+    (c.requires.6.reaching refl) x (makes at) preempted refl final (ap (λ (n : ℕ). 32 * n + x.ending) (end_is (goal.at.returns c).After-block_count-end))
+    (written.ensures.0 ∙ ap (λ (r : SheetRun). length (sheet_numbers r)) is)
+    (written.ensures.1 ∙ ap (λ (r : SheetRun). sheet_numbers r ++ drop (length (sheet_numbers r)) old) is)

@@ -2,51 +2,50 @@
 use Prim.Native.Nat.{◌+◌, ◌-◌}
 use native.Mathlib.Omega.{arith}
 use borrow.Rule.Slice.PartMut.{put_mid}
+use Rattle.run_sheet.specs.Joined.{HasTrail}
 use Rattle.run_sheet.proofs.WriteLaws.{own_room, by-room, sheet-preempted, sheet-whole}
 use Rattle.run_sheet.proofs.write_sheet.Goals as goal
 
 pub write_own-requires : goal.write_own-requires
 write_own-requires c =
-    let start = c in
-    let args = start.args in
-    let before = c.length_before-before in
-    let after = c.count in (
-      start.requires.0.places,
-      start.requires.0.inside,
-      omega (arith, before.ensures, start.requires.0.few),
-      start.requires.1,
-      own_room before.result args.to.now args.at args.on.now args.from args.sheet.now after.result after.ensures.0
-          (omega (arith, before.ensures, after.ensures.0, start.requires.0.few, start.requires.1.few, start.requires.3)),
+    let run = c.args.run.now in
+    let joins = c.requires.0 in
+    let n = c.length_before-before in
+    let after = c.length in (
+      joins.few,
+      joins.on,
+      own_room run.before run.on.trails.now run.on.at c.args.sheet.now n.result after.result n.ensures after.ensures
+          (omega (arith, n.ensures, after.ensures, joins.few, joins.on.few, c.requires.1)),
     )
 
-pub write_by-requires : goal.write_by-requires
-write_by-requires c =
-    let start = c in
-    let args = start.args in
-    let before = c.length_before-before in
-    let after = c.count in
-    let ended = c.count-then-preempted in
-    let a = 2 + before.result + after.result in (
-      start.requires.2,
-      by-room args.by.now args.end (put_mid 0 (a - 0) args.sheet.now c.write_own.new.out) a ended.result ended.ensures.0
-          (omega (arith, before.ensures, after.ensures.0, ended.ensures.0, start.requires.0.few, start.requires.1.few, start.requires.2.few, start.requires.3, c.sheet-1.given.1)),
+pub write_preemption-requires : goal.write_preemption-requires
+write_preemption-requires c =
+    let joins = c.requires.0 in
+    let n = c.length_before-before in
+    let after = c.length in
+    let path = c.in-Some.preemption.path in
+    let ended = c.length-in-Some in
+    let a = 2 + n.result + after.result in
+    let by : HasTrail path.trails.now path.at = rw c.in-Some.is at joins.by in (
+      by,
+      by-room path.trails.now path.at (put_mid 0 (a - 0) c.args.sheet.now c.write_own.new.out) a ended.result ended.ensures
+          (omega (arith, n.ensures, after.ensures, ended.ensures, joins.few, joins.on.few, by.few, c.requires.1, c.sheet-1.given.1)),
     )
 
-pub returns-then-preempted : goal.returns-then-preempted
-returns-then-preempted c =
-    let start = c in
-    let args = start.args in
-    let before = c.length_before-before in
-    let after = c.count in
-    let ended = c.count-then-preempted in
-    sheet-preempted args.i args.j args.first args.to.now args.at args.done args.on.now args.from args.by.now args.end args.sheet.now before.result after.result before.ensures after.ensures.0 c.write_own.ensures
-    args.preempted ended.result c.if-preempted.true ended.ensures.0 c.write_by.ensures
+pub returns-in-Some : goal.returns-in-Some
+returns-in-Some c =
+    let run = c.args.run.now in
+    let n = c.length_before-before in
+    let after = c.length in
+    let ended = c.length-in-Some in
+    sheet-preempted run c.args.sheet.now n.result after.result n.ensures after.ensures c.write_own.ensures c.in-Some.preemption ended.result c.in-Some.is ended.ensures
+    c.write_preemption.ensures
 
-pub returns : goal.returns
-returns c =
-    let start = c in
-    let args = start.args in
-    let before = c.length_before-before in
-    let after = c.count in
-    sheet-whole args.i args.j args.first args.to.now args.at args.done args.on.now args.from args.by.now args.end args.sheet.now before.result after.result before.ensures after.ensures.0 c.write_own.ensures
-    args.preempted c.if-preempted.false (omega (arith, before.ensures, after.ensures.0, start.requires.0.few, start.requires.1.few, start.requires.3))
+pub returns-in-None : goal.returns-in-None
+returns-in-None c =
+    let run = c.args.run.now in
+    let joins = c.requires.0 in
+    let n = c.length_before-before in
+    let after = c.length in
+    sheet-whole run c.args.sheet.now n.result after.result n.ensures after.ensures c.write_own.ensures c.in-None.is
+    (omega (arith, n.ensures, after.ensures, joins.few, joins.on.few, c.requires.1))

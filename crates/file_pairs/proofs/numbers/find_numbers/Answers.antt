@@ -19,46 +19,43 @@ use Rattle.file_pairs.proofs.numbers.find_numbers.Goals.{After-task_numbers, In-
 the-task : (c : In-loop-i) → TaskBody c.args.file.now c.loop-i.i
 the-task c =
     let start = c in
-    of-task start.args.file.now start.requires.0 c.loop-i.i (omega (arith, start.requires.4, c.loop-i.invariant.0))
+    of-task start.args.file.now start.requires.0 c.loop-i.i (omega (arith, start.requires.3, c.loop-i-test.true))
 
 -- what was found of it
 found : (c : After-task_numbers) → let start = c in let at = c.loop-i in
-    NumbersFound (shaped start.args.w start.args.shape) (tasks_of start.args.file.now) (task_count start.args.file.now) (task (tasks_of start.args.file.now) at.i)
+    NumbersFound (shaped start.args.ends.now.w start.args.shape) (tasks_of start.args.file.now) (task_count start.args.file.now) (task (tasks_of start.args.file.now) at.i)
     (take (8 * at.i + 8 - 8 * at.i) (drop (8 * at.i) (set at.numbers (9 * at.i) 32))) c.task_numbers.new.numbers c.task_numbers.result
 found c =
     let start = c in
     let at = c.loop-i in
     let placed = c.task_body.ensures.0 in
-    found_as start.requires.4 (body-task start.args.file.now at.i ((let here : TaskBody c.args.file.now c.loop-i.i = let start = c in of-task start.args.file.now start.requires.0 c.loop-i.i (omega (arith, start.requires.4, c.loop-i.invariant.0)) in here)) placed)
-    (c.task_numbers.ensures.1 (tasks_of start.args.file.now) start.requires.6)
+    found_as start.requires.3 (body-task start.args.file.now at.i ((let here : TaskBody c.args.file.now c.loop-i.i = let start = c in of-task start.args.file.now start.requires.0 c.loop-i.i (omega (arith, start.requires.3, c.loop-i-test.true)) in here)) placed)
+    (c.task_numbers.ensures.1 (tasks_of start.args.file.now) start.requires.5)
 
 pub loop-i-init : goal.loop-i-init
 loop-i-init c =
     let start = c in
-    (omega arith, start.requires.5, at_first_lem start.args.file.now (shaped start.args.w start.args.shape) start.requires.7)
+    (start.requires.4, at_first_lem start.args.file.now (shaped start.args.ends.now.w start.args.shape) start.requires.6)
 
 pub bounds-numbers-i : goal.bounds-numbers-i
-bounds-numbers-i c = let t = the-task c in omega (arith, c.loop-i.invariant.2.long, t.in_file.below, t.in_file.few)
+bounds-numbers-i c = let t = the-task c in omega (arith, c.loop-i.invariant.1.long, t.in_file.below, t.in_file.few)
 
 pub slice_bounds-task_numbers-end : goal.slice_bounds-task_numbers-end
 slice_bounds-task_numbers-end c =
     let at = c.loop-i in
     let t = the-task (goal.at.slice_bounds-task_numbers-end c).In-loop-i in
-    omega (arith, length-set at.numbers (9 * at.i) 32, at.invariant.2.long, t.in_file.below, t.in_file.few)
+    omega (arith, length-set at.numbers (9 * at.i) 32, at.invariant.1.long, t.in_file.below, t.in_file.few)
 
 pub task_numbers-requires : goal.task_numbers-requires
 task_numbers-requires c =
-    let start = c in
     let at = c.loop-i in
-    let placed = c.task_body.ensures.0 in
     let t = the-task (goal.at.task_numbers-requires c).In-loop-i in
-    let file = start.args.file.now in (
-      body_kept file at.i t placed,
-      start.requires.2,
-      start.requires.3,
-      at.invariant.1,
-      start.requires.6.room,
-      row-long file (shaped start.args.w start.args.shape) at.i (file_pairs start.args.w file start.requires.1 start.requires.2) t.in_file.below t.in_file.few at.numbers at.invariant.2,
+    let file = c.args.file.now in
+    let ends = c.args.ends.now in (
+      body_kept file at.i t c.task_body.ensures.0,
+      c.requires.2,
+      at.invariant.0,
+      row-long file (shaped ends.w c.args.shape) at.i (file_pairs ends.w file c.requires.1 c.requires.2) t.in_file.below t.in_file.few at.numbers at.invariant.1,
     )
 
 pub shape_of-numbers-then-task_numbers : goal.shape_of-numbers-then-task_numbers
@@ -67,10 +64,10 @@ shape_of-numbers-then-task_numbers c =
     let at = c.loop-i in
     let t = the-task (goal.at.shape_of-numbers-then-task_numbers c).In-loop-i in
     let file = start.args.file.now in
-    let k = shaped start.args.w start.args.shape in
-    let same = file_pairs start.args.w file start.requires.1 start.requires.2 in
-    grown_long file k at.i same t.in_file.below t.in_file.few at.numbers at.invariant.2 c.task_numbers.new.numbers (found (goal.at.shape_of-numbers-then-task_numbers c).After-task_numbers).long
-    ∙ sym (ap length start.requires.7 ∙ length-replicate {A = ℕ} 64 0)
+    let k = shaped start.args.ends.now.w start.args.shape in
+    let same = file_pairs start.args.ends.now.w file start.requires.1 start.requires.2 in
+    grown_long file k at.i same t.in_file.below t.in_file.few at.numbers at.invariant.1 c.task_numbers.new.numbers (found (goal.at.shape_of-numbers-then-task_numbers c).After-task_numbers).long
+    ∙ sym (ap length start.requires.6 ∙ length-replicate {A = ℕ} 64 0)
 
 pub returns-then-task_numbers : goal.returns-then-task_numbers
 returns-then-task_numbers c =
@@ -78,9 +75,9 @@ returns-then-task_numbers c =
     let at = c.loop-i in
     let t = the-task (goal.at.returns-then-task_numbers c).In-loop-i in
     let file = start.args.file.now in
-    let k = shaped start.args.w start.args.shape in
-    let same = file_pairs start.args.w file start.requires.1 start.requires.2 in
-    let e = stops file k at.i same t.in_file.below t.in_file.few at.numbers at.invariant.2 (found (goal.at.returns-then-task_numbers c).After-task_numbers).answer c.if-task_numbers.true c.task_byte.ensures in
+    let k = shaped start.args.ends.now.w start.args.shape in
+    let same = file_pairs start.args.ends.now.w file start.requires.1 start.requires.2 in
+    let e = stops file k at.i same t.in_file.below t.in_file.few at.numbers at.invariant.1 (found (goal.at.returns-then-task_numbers c).After-task_numbers).answer c.if-task_numbers.true c.task_byte.ensures in
     (c.task_numbers.ensures.0, e, λ q. absurd (ok-not-err (sym q)))
 
 pub bounds-numbers-i-in-loop-i : goal.bounds-numbers-i-in-loop-i
@@ -89,9 +86,9 @@ bounds-numbers-i-in-loop-i c =
     let at = c.loop-i in
     let t = the-task (goal.at.bounds-numbers-i-in-loop-i c).In-loop-i in
     let file = start.args.file.now in
-    let k = shaped start.args.w start.args.shape in
-    let same = file_pairs start.args.w file start.requires.1 start.requires.2 in
-    let z = grown_long file k at.i same t.in_file.below t.in_file.few at.numbers at.invariant.2 c.task_numbers.new.numbers (found (goal.at.bounds-numbers-i-in-loop-i c).After-task_numbers).long in
+    let k = shaped start.args.ends.now.w start.args.shape in
+    let same = file_pairs start.args.ends.now.w file start.requires.1 start.requires.2 in
+    let z = grown_long file k at.i same t.in_file.below t.in_file.few at.numbers at.invariant.1 c.task_numbers.new.numbers (found (goal.at.bounds-numbers-i-in-loop-i c).After-task_numbers).long in
     omega (arith, z, t.in_file.below, t.in_file.few)
 
 pub loop-i-preserved : goal.loop-i-preserved
@@ -100,11 +97,10 @@ loop-i-preserved c =
     let at = c.loop-i in
     let t = the-task (goal.at.loop-i-preserved c).In-loop-i in
     let file = start.args.file.now in
-    let k = shaped start.args.w start.args.shape in
-    let same = file_pairs start.args.w file start.requires.1 start.requires.2 in (
-      omega arith,
+    let k = shaped start.args.ends.now.w start.args.shape in
+    let same = file_pairs start.args.ends.now.w file start.requires.1 start.requires.2 in (
       c.task_numbers.ensures.0,
-      turn file k at.i same t.in_file.below t.in_file.few at.numbers at.invariant.2 c.task_numbers.new.numbers (found (goal.at.loop-i-preserved c).After-task_numbers) c.if-task_numbers.false,
+      turn file k at.i same t.in_file.below t.in_file.few at.numbers at.invariant.1 c.task_numbers.new.numbers (found (goal.at.loop-i-preserved c).After-task_numbers) c.if-task_numbers.false,
     )
 
 pub returns : goal.returns
@@ -112,8 +108,8 @@ returns c =
     let start = c in
     let at = c.loop-i in
     let file = start.args.file.now in
-    let k = shaped start.args.w start.args.shape in
-    let e : at.i ≡ task_count file = omega (arith, start.requires.4) in
-    let few : task_count file ≤ 8 = omega (arith, start.requires.4, start.requires.6.room.inside) in
-    let h = rw e at at.invariant.2 in
-    (at.invariant.1, ends file k few at.numbers h, λ q. whole file k few at.numbers h)
+    let k = shaped start.args.ends.now.w start.args.shape in
+    let e : at.i ≡ task_count file = omega (arith, start.requires.3) in
+    let few : task_count file ≤ 8 = omega (arith, start.requires.3, start.args.ends.now.are.inside) in
+    let h = rw e at at.invariant.1 in
+    (at.invariant.0, ends file k few at.numbers h, λ q. whole file k few at.numbers h)

@@ -1,6 +1,5 @@
 -- `numbers::find_numbers` meets its contract. The loop's invariant: the rows of the tasks below i are written, and none of them has too many states. Assumes nothing.
 use mathlib.Core.Path.{◌≡◌}
-use Prim.Native.Nat.{◌-◌, ◌≤◌}
 use lib.ListN.{length}
 use Rattle.cache.specs.Shape.{shaped}
 use Rattle.rows.specs.Rows.{area_length}
@@ -8,7 +7,4 @@ use Rattle.file_pairs.proofs.TableLaws.{SoFar}
 use Rattle.file_pairs.proofs.numbers.find_numbers.Given as goal
 
 abbrev pub invariant-loop-i : goal.invariant-loop-i
-invariant-loop-i l = (l.i ≤ l.tasks) × (length l.area ≡ area_length l.w) × SoFar l.file (shaped l.w l.shape) l.i l.numbers
-
-abbrev pub decreases-loop-i : goal.decreases-loop-i
-decreases-loop-i l = l.tasks - l.i
+invariant-loop-i l = (length l.area ≡ area_length l.ends.w) × SoFar l.file (shaped l.ends.w l.shape) l.i l.numbers

@@ -1,12 +1,8 @@
 -- `numbers::may_raise_some` meets its contract: the row may raise the number of no task passed. Assumes nothing.
 use mathlib.Core.Path.{◌≡◌}
 use mathlib.Core.Bool.{false}
-use Prim.Native.Nat.{◌-◌, ◌≤◌}
 use Rattle.pairs.specs.Pairs.{may_raise_some}
 use Rattle.pairs.proofs.numbers.may_raise_some.Given as goal
 
 abbrev pub invariant-loop-j : goal.invariant-loop-j
-invariant-loop-j l = (l.j ≤ l.tasks) × (may_raise_some l.row l.held l.ends l.counts l.numbers l.j ≡ false)
-
-abbrev pub decreases-loop-j : goal.decreases-loop-j
-decreases-loop-j l = l.tasks - l.j
+invariant-loop-j l = may_raise_some l.row l.held l.ends l.numbers l.j ≡ false

@@ -1,9 +1,7 @@
 -- `at_point::over_ends` meets its contract: after e turns the first e replaced sets are met. Assumes nothing.
-use mathlib.Core.Path.{◌≡◌}
 use Prim.Native.Nat.{◌^◌, ◌<◌}
 use native.Mathlib.Omega.{arith}
 use borrow.Author.Rules.{rules}
-use lib.ListN.{length}
 use Rattle.search.specs.Search.{Raised, AtEnd}
 use Rattle.search.proofs.Raising.{raised_none, end-few, end_raised, end_kept, end_more, set_skipped}
 use Rattle.search.proofs.at_point.over_ends.Goals as goal
@@ -16,9 +14,7 @@ returns-then-set-old c =
     set_skipped args.point args.live args.set args.sets.now args.old fits c.if-set-old.true
 
 pub loop-e-init : goal.loop-e-init
-loop-e-init c =
-    let args = c.args in
-    (omega arith, raised_none (λ x. x.ending) (AtEnd args.point args.live args.set args.sets.now) args.old)
+loop-e-init c = let args = c.args in raised_none (λ x. x.ending) (AtEnd args.point args.live args.set args.sets.now) args.old
 
 pub overflow_add-cost : goal.overflow_add-cost
 overflow_add-cost c =
@@ -36,10 +32,4 @@ loop-e-preserved c =
       | then-found-cost w ↦ end_raised args.point args.live args.set args.sets.now at.e at.found count w.if-found-cost.true w.found-is
       | else-found-cost w ↦ end_kept args.point args.live args.set args.sets.now at.e at.found count (omega arith) w.found-is
     ] in
-    (omega arith, end_more args.point args.live args.set args.sets.now at.e at.invariant.1 met)
-
-pub returns : goal.returns
-returns c =
-    let at = c.loop-e in
-    let end : at.e ≡ length c.args.sets.now = omega arith in
-    rw end at at.invariant.1
+    end_more args.point args.live args.set args.sets.now at.e at.invariant met

