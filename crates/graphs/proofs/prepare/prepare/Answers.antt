@@ -11,7 +11,7 @@ use Rattle.model.specs.Tasks.{block}
 use Rattle.model.proofs.Narrower.{narrower_first, narrower_last}
 use Rattle.body.specs.Decode.{decode, task_of}
 use Rattle.body.proofs.Decoded.{decoded-real}
-use Rattle.body.proofs.JumpLaws.{WalkedTask, walked_task}
+use Rattle.body.proofs.JumpLaws.{WalkedTask, its_task}
 use Rattle.graphs.proofs.Listed.{last-long, first-long, block-real}
 use Rattle.graphs.proofs.Prepared.{rows_start, rows_turn, rows_end}
 use Rattle.graphs.proofs.prepare.prepare.Invariants.{firsts, lasts}
@@ -19,8 +19,8 @@ use Rattle.graphs.proofs.prepare.prepare.Goals as goal
 use Rattle.graphs.proofs.prepare.prepare.Goals.{Start}
 
 -- the task of the body
-facts : (c : Start) → WalkedTask c.args.body.now c.args.walk.blocks c.args.walk.starts
-facts c = walked_task _ _ _ c.requires.0 c.requires.1 c.requires.2
+facts : (c : Start) → let w = c.args.walk.now in WalkedTask w.body.now w.blocks w.starts
+facts c = its_task c.args.walk.now
 
 pub loop-b-init : goal.loop-b-init
 loop-b-init c =
@@ -28,17 +28,17 @@ loop-b-init c =
     let w = start.args.w in
     let k = shaped w start.args.shape in (
       omega arith,
-      ap length start.requires.5 ∙ length-replicate (24 * w) nothing,
-      ap length start.requires.6 ∙ length-replicate (24 * w) nothing,
-      rows_start w (firsts k) (first-long k) (task_of (decode start.args.body.now)) start.requires.5,
-      rows_start w (lasts k) (last-long k) (task_of (decode start.args.body.now)) start.requires.6,
+      ap length start.requires.2 ∙ length-replicate (24 * w) nothing,
+      ap length start.requires.3 ∙ length-replicate (24 * w) nothing,
+      rows_start w (firsts k) (first-long k) (task_of (decode start.args.walk.now.body.now)) start.requires.2,
+      rows_start w (lasts k) (last-long k) (task_of (decode start.args.walk.now.body.now)) start.requires.3,
     )
 
-pub offset_bounds-starts-b : goal.offset_bounds-starts-b
-offset_bounds-starts-b c = let f = facts (goal.at.offset_bounds-starts-b c).Start in omega (arith, f.long, f.bounds.few)
+pub offset_bounds-walk-b : goal.offset_bounds-walk-b
+offset_bounds-walk-b c = let f = facts (goal.at.offset_bounds-walk-b c).Start in omega (arith, f.long, f.bounds.few)
 
-pub bounds-starts-b : goal.bounds-starts-b
-bounds-starts-b c = let f = facts (goal.at.bounds-starts-b c).Start in omega (arith, f.long, f.bounds.few)
+pub bounds-walk-b : goal.bounds-walk-b
+bounds-walk-b c = let f = facts (goal.at.bounds-walk-b c).Start in omega (arith, f.long, f.bounds.few)
 
 pub references-requires : goal.references-requires
 references-requires c =
@@ -50,7 +50,7 @@ gather-rows-requires c =
     let start = c in
     let f = facts (goal.at.gather-rows-requires c).Start in
     let b = c.loop-b.b in (
-      record { some = start.requires.3.some; room = omega (arith, start.requires.3.room, start.requires.4.narrow) },
+      record { some = start.requires.0.some; room = omega (arith, start.requires.0.room, start.requires.1.narrow) },
       rw (ap numbers c.references.ensures ∙ (f.parts b (omega (arith, f.long))).references) (block-real f.its (decoded-real _ _ f.decodes) b),
     )
 
@@ -61,7 +61,7 @@ pub keep_row-requires : goal.keep_row-requires
 keep_row-requires c =
     let start = c in
     let f = facts (goal.at.keep_row-requires c).Start in
-    (start.requires.4, omega (arith, f.long, f.bounds.few), c.loop-b.invariant.1)
+    (start.requires.1, omega (arith, f.long, f.bounds.few), c.loop-b.invariant.1)
 
 pub cells-requires-in-loop-b : goal.cells-requires-in-loop-b
 cells-requires-in-loop-b c = tt
@@ -70,7 +70,7 @@ pub keep_row-requires-in-loop-b : goal.keep_row-requires-in-loop-b
 keep_row-requires-in-loop-b c =
     let start = c in
     let f = facts (goal.at.keep_row-requires-in-loop-b c).Start in
-    (start.requires.4, omega (arith, f.long, f.bounds.few), c.loop-b.invariant.2)
+    (start.requires.1, omega (arith, f.long, f.bounds.few), c.loop-b.invariant.2)
 
 pub overflow_step-b : goal.overflow_step-b
 overflow_step-b c = let f = facts (goal.at.overflow_step-b c).Start in omega (arith, f.long, f.bounds.few)
@@ -93,18 +93,18 @@ loop-b-preserved c =
       c.keep_row.auto.rows ∙ at.invariant.1,
       c.keep_row-in-loop-b.auto.rows ∙ at.invariant.2,
       rw f.same (rows_turn w (firsts k) (first-long k) f.its at.b (omega (arith, f.long, test)) f.bounds.few (rw f.same at at.invariant.3)
-          (ap (take w) (c.cells.ensures ∙ gathered.0 ∙ ap (first_references v) refs) ∙ narrower_first n w 32 start.requires.3.some start.requires.3.room start.requires.4.narrow made)
+          (ap (take w) (c.cells.ensures ∙ gathered.0 ∙ ap (first_references v) refs) ∙ narrower_first n w 32 start.requires.0.some start.requires.0.room start.requires.1.narrow made)
           c.keep_row.ensures),
       rw f.same (rows_turn w (lasts k) (last-long k) f.its at.b (omega (arith, f.long, test)) f.bounds.few (rw f.same at at.invariant.4)
-          (ap (take w) (c.cells-in-loop-b.ensures ∙ gathered.1 ∙ ap (with_references v (empty_row v)) refs) ∙ narrower_last n w 32 start.requires.3.some start.requires.3.room start.requires.4.narrow made)
+          (ap (take w) (c.cells-in-loop-b.ensures ∙ gathered.1 ∙ ap (with_references v (empty_row v)) refs) ∙ narrower_last n w 32 start.requires.0.some start.requires.0.room start.requires.1.narrow made)
           c.keep_row-in-loop-b.ensures),
     )
 
 pub shape_of-first : goal.shape_of-first
-shape_of-first c = let start = c in c.loop-b.invariant.1 ∙ sym (ap length start.requires.5 ∙ length-replicate (24 * start.args.w) nothing)
+shape_of-first c = let start = c in c.loop-b.invariant.1 ∙ sym (ap length start.requires.2 ∙ length-replicate (24 * start.args.w) nothing)
 
 pub shape_of-last : goal.shape_of-last
-shape_of-last c = let start = c in c.loop-b.invariant.2 ∙ sym (ap length start.requires.6 ∙ length-replicate (24 * start.args.w) nothing)
+shape_of-last c = let start = c in c.loop-b.invariant.2 ∙ sym (ap length start.requires.3 ∙ length-replicate (24 * start.args.w) nothing)
 
 pub returns : goal.returns
 returns c =

@@ -20,5 +20,5 @@ lasts k x = with_references k (empty_row k) x.references
 
 abbrev pub invariant-loop-b : goal.invariant-loop-b
 invariant-loop-b l =
-    (l.b ≤ l.b-end) × (length l.first ≡ 24 * l.w) × (length l.last ≡ 24 * l.w) × (l.first ≡ rows_to l.w (firsts (shaped l.w l.shape)) (task_of (decode l.body)) l.b)
-    × (l.last ≡ rows_to l.w (lasts (shaped l.w l.shape)) (task_of (decode l.body)) l.b)
+    (l.b ≤ l.b-end) × (length l.first ≡ 24 * l.w) × (length l.last ≡ 24 * l.w) × (l.first ≡ rows_to l.w (firsts (shaped l.w l.shape)) (task_of (decode l.walk.body.now)) l.b)
+    × (l.last ≡ rows_to l.w (lasts (shaped l.w l.shape)) (task_of (decode l.walk.body.now)) l.b)
