@@ -9,7 +9,7 @@ ghost use Rattle.project.specs.Reading.{head_check, reading_of};
 ghost use Rattle.project.specs.Bodies.{accepted};
 ghost use Rattle.project.specs.Checklist.{left_by};
 ghost use Rattle.project.specs.Tasks.{tasks_of, file_shape};
-ghost use Rattle.pairs.specs.Pairs.{ends_length};
+ghost use Rattle.pairs.specs.Ends.{ends_length};
 ghost use Rattle.file_pairs.specs.FilePairs.{first_full, table_of};
 ghost use Rattle.table.specs.Table.{table_answer, table_after};
 
@@ -18,6 +18,7 @@ use cache::blocks::CacheShape;
 use cache::numbers::byte_count;
 use file_pairs::ends::find_ends;
 use file_pairs::numbers::find_numbers;
+use pairs::ends::Ends;
 use project::answers::{Check, Refusal};
 use project::head::head;
 use reader::{file_shape, read_bodies};
@@ -43,17 +44,14 @@ fn fill_table(
     let mut mixed = [0u32; 8];
     let mut numbers = [0u16; 64];
     find_ends(file, shape, w, tasks, area, ends, &mut counts, &mut mixed);
-    find_numbers(
-        file,
-        shape,
+    let found = Ends {
         w,
+        rows: ends,
+        counts: &counts,
+        mixed: &mixed,
         tasks,
-        area,
-        ends,
-        &counts,
-        &mixed,
-        &mut numbers,
-    )?;
+    };
+    find_numbers(file, shape, area, &found, &mut numbers)?;
     table.copy_from_slice(&numbers);
     Ok(())
 }

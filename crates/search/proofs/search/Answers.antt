@@ -30,7 +30,7 @@ facts c = kept_task c.kept_walk-walked.result c.kept_walk-walked.ensures
 before-is : (c : After-predecessors-before) (b : ℕ) → get_or c.predecessors-before.result b 0 ≡ predecessors_of (task_of (decode c.args.body.now)) b
 before-is c b =
     let f = facts (goal.at.After-predecessors-before c).After-kept_walk-walked in
-    ap (λ (l : List ℕ). get_or l b 0) (c.predecessors-before.ensures ∙ ap₂ turned c.jumps.ensures (f.long ∙ ap length (sym f.same)))
+    ap (λ (l : List ℕ). get_or l b 0) (c.predecessors-before.ensures ∙ ap₂ turned (rw c.kept_walk-walked.ensures at c.jumps.ensures) (f.long ∙ ap length (sym f.same)))
 
 -- the references of block b
 references-are : (s : List ℕ) (n : ℕ) (starts : List ℕ) (f : WalkedTask s n starts) (b : ℕ) (r : List ℕ) → b < n → r ≡ references_at (get_or starts b 0) s

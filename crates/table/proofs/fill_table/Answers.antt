@@ -12,11 +12,14 @@ find_ends-requires c =
     let is = c.requires in
     (is.0, is.1, is.2, is.3, is.4, is.5, is.6, refl, refl)
 
+pub invariant_of-found : goal.invariant_of-found
+invariant_of-found c = record { are = c.find_ends.ensures.1.room }
+
 pub find_numbers-requires : goal.find_numbers-requires
 find_numbers-requires c =
     let is = c.requires in
     let found = c.find_ends.ensures in
-    (is.0, is.1, is.2, is.3, is.4, found.0, found.1, refl)
+    (is.0, is.1, is.2, is.4, found.0, found.1, refl)
 
 pub copy_from_slice-requires : goal.copy_from_slice-requires
 copy_from_slice-requires c =
