@@ -1,5 +1,6 @@
 // The rows that a graph of blocks gathers: each row of each block is handed on once.
 ghost use Rattle.std.specs.Prelude.{◌≡◌, [], ◌*◌, ◌<◌, ◌≤◌, length, get_or, replicate};
+ghost use Rattle.std.specs.Result.{is_err};
 ghost use Rattle.rows.specs.Overlay.{overlay};
 ghost use Rattle.gather.specs.Graph.{row_at};
 ghost use Rattle.gather.specs.Memory.{Memory, held_rows, AppendedTo, NextIn, HandedOn, WaitingAt};
@@ -18,6 +19,10 @@ pub struct BlockGraph<'a> {
     pub first: usize,
     pub row: &'a [u16],
 }
+
+// A block gets more rows than there is room for.
+#[derive(Clone, Copy, Debug, PartialEq, Eq)]
+pub struct Full;
 
 // No block has a row.
 pub fn clear(counts: &mut [usize])
@@ -131,11 +136,11 @@ pub fn next_waiting(counts: &[usize], done: &[usize], last: usize) -> usize
     24
 }
 
-// The rows of each block and their counts; true where some block has more than 32 rows.
-// Left open are the order of a block's rows and what stands after them, and after true all rows and counts.
-pub fn gather(graph: BlockGraph, rows: &mut [u16], counts: &mut [usize]) -> bool
+// The rows of each block and their counts; an error where some block has more than 32 rows.
+// Left open are the order of a block's rows and what stands after them, and after an error all rows and counts.
+pub fn gather(graph: BlockGraph, rows: &mut [u16], counts: &mut [usize]) -> Result<(), Full>
     requires { GraphInput graph rows.old counts.old }
-    ensures { GatheredAs (graph_meant graph.entry) rows.new counts.new result }
+    ensures { GatheredAs (graph_meant graph.entry) rows.new counts.new (is_err result) }
 {
     let w = graph.row.len();
     clear(counts);
@@ -155,10 +160,10 @@ pub fn gather(graph: BlockGraph, rows: &mut [u16], counts: &mut [usize]) -> bool
             rows,
             counts,
         ) {
-            return true;
+            return Err(Full);
         }
         done[b] = k + 1;
         b = next_waiting(counts, &done, b);
     }
-    false
+    Ok(())
 }

@@ -1,5 +1,6 @@
 // The reaching and live states of a body, gathered in memory.
 ghost use Rattle.std.specs.Prelude.{◌≡◌, true, ◌*◌, ◌≤◌, ◌<◌, length};
+ghost use Rattle.std.specs.Result.{is_err};
 ghost use Rattle.cache.specs.Shape.{shaped, Holds};
 ghost use Rattle.model.specs.Computed.{reaching};
 ghost use Rattle.body.specs.Decode.{decode, task_of};
@@ -16,7 +17,7 @@ use body::predecessors::predecessors;
 use body::kept_walk;
 use cache::blocks::CacheShape;
 use cache::row::Row;
-use gather::gather::{BlockGraph, gather};
+use gather::gather::{BlockGraph, Full, gather};
 
 // No reference of any block, in rows of up to 32 numbers.
 pub const NO_ROWS: [u16; 768] = [Row::NOTHING; 768];
@@ -65,7 +66,7 @@ pub fn live_graph<'a>(
     }
 }
 
-// The rows of both kinds in a work area, those of reaching states first. Left open is what `gather` leaves open, the area from the counts on,
+// The rows of both kinds in a work area, those of reaching states first; an error where some block has more than 32 of either. Left open is what `gather` leaves open, the area from the counts on,
 // and where some block has more than 32 reaching states the live ones.
 fn gather_both(
     blocks: usize,
@@ -76,18 +77,16 @@ fn gather_both(
     area: &mut [u16],
     reached: &mut [usize],
     lived: &mut [usize],
-) -> bool
+) -> Result<(), Full>
     requires { Width w × (0 < blocks) × (blocks ≤ 24) × (length first.now ≡ 24 * w) × (length last.now ≡ 24 * w)
         × (length area.old ≡ area_length w) × (length reached.old ≡ 24) × (length lived.old ≡ 24) }
     ensures { BothGathered (reach_of w blocks sets last.now) (live_of w blocks sets first.now)
-        area.new reached.new lived.new result }
+        area.new reached.new lived.new (is_err result) }
 {
     let kind = 24 * (32 * w);
     let none = &NO_ROWS[0..24 * w];
     let reaching = reaching_graph(blocks, &sets, w, none, last);
-    if gather(reaching, &mut area[0..kind], reached) {
-        return true;
-    }
+    gather(reaching, &mut area[0..kind], reached)?;
     let before = predecessors(sets, blocks);
     let live = live_graph(blocks, &before, w, none, first);
     gather(live, &mut area[kind..kind + kind], lived)
@@ -139,7 +138,7 @@ pub fn reaching_rows(
     let found = graphs(body, shape, w, &mut first[0..room], &mut last[0..room]);
     let none = &NO_ROWS[0..room];
     let graph = reaching_graph(found.blocks, &found.sets, w, none, &last[0..room]);
-    gather(graph, rows, counts)
+    gather(graph, rows, counts).is_err()
 }
 
 // The reaching and the live states of each block of a body, in a work area; true where some block has more than 32 of either. Left open are the
@@ -170,4 +169,5 @@ pub fn task_rows(
         reached,
         lived,
     )
+    .is_err()
 }

@@ -4,6 +4,7 @@
 pub mod keep;
 
 ghost use Rattle.std.specs.Prelude.{◌≡◌, true, ◌*◌, ◌≤◌, ◌<◌, length};
+ghost use Rattle.std.specs.Result.{is_err};
 ghost use Rattle.cache.specs.Shape.{shaped, Holds};
 ghost use Rattle.body.specs.Decode.{decode, task_of};
 ghost use Rattle.body.specs.Walk.{kept_of};
@@ -13,10 +14,11 @@ ghost use Rattle.task_uncovered.specs.Standing.{Both, Kept, AreaStands};
 
 use body::predecessors::predecessors;
 use cache::blocks::CacheShape;
+use gather::gather::Full;
 use graphs::task_rows::{NO_ROWS, graphs, live_graph, reaching_graph};
 use keep::keep_rows;
 
-// The rows of both kinds in a work area, those of reaching states first. Left open is what `keep_rows` leaves open, the area from the counts on, and
+// The rows of both kinds in a work area, those of reaching states first; an error where some block has too many of either. Left open is what `keep_rows` leaves open, the area from the counts on, and
 // where some block has too many reaching rows the live ones.
 fn keep_both(
     blocks: usize,
@@ -27,18 +29,16 @@ fn keep_both(
     area: &mut [u16],
     reached: &mut [usize],
     lived: &mut [usize],
-) -> bool
+) -> Result<(), Full>
     requires { Width w × (0 < blocks) × (blocks ≤ 24) × (length first.now ≡ 24 * w) × (length last.now ≡ 24 * w)
         × (length area.old ≡ area_length w) × (length reached.old ≡ 24) × (length lived.old ≡ 24) }
     ensures { Both Kept (reach_of w blocks sets last.now) (live_of w blocks sets first.now)
-        area.new reached.new lived.new result }
+        area.new reached.new lived.new (is_err result) }
 {
     let kind = 24 * (32 * w);
     let none = &NO_ROWS[0..24 * w];
     let reaching = reaching_graph(blocks, &sets, w, none, last);
-    if keep_rows(reaching, &mut area[0..kind], reached) {
-        return true;
-    }
+    keep_rows(reaching, &mut area[0..kind], reached)?;
     let before = predecessors(sets, blocks);
     let live = live_graph(blocks, &before, w, none, first);
     keep_rows(live, &mut area[kind..kind + kind], lived)
@@ -72,4 +72,5 @@ pub fn standing_rows(
         reached,
         lived,
     )
+    .is_err()
 }

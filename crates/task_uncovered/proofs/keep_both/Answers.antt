@@ -1,10 +1,12 @@
 -- `keep_both` meets its contract: each kind has its part of the area. Assumes nothing.
 -- The idea: where the reaching states are too many, the answer is known without the live ones.
-use mathlib.Core.Path.{◌≡◌, refl}
+use mathlib.Core.Path.{◌≡◌, refl, ap}
 use Prim.Native.Nat.{◌*◌}
 use native.Mathlib.Omega.{arith}
 use lib.ListN.{length}
 use borrow.Author.Rules.{rules}
+use Rattle.std.specs.Result.{is_err}
+use Rattle.std.proofs.lemmas.Result.{err_from_is_err_and}
 use Rattle.task_uncovered.specs.Standing.{Kept}
 use Rattle.task_uncovered.proofs.Halves.{both_full, both_all}
 use Rattle.task_uncovered.proofs.Standing.{kept_sizes}
@@ -24,12 +26,13 @@ keep_rows-requires c =
     (reach_input args.w args.blocks start.requires.0 start.requires.1 start.requires.2 each
     (first-wide (24 * (32 * args.w)) args.area.now (omega (arith, start.requires.5))) start.requires.6 start.requires.4)
 
-pub returns-then-keep_rows : goal.returns-then-keep_rows
-returns-then-keep_rows c =
+pub returns-in_err-keep_rows : goal.returns-in_err-keep_rows
+returns-in_err-keep_rows c =
     let start = c in
     let args = start.args in
-    both_full Kept kept_sizes (reach_of args.w args.blocks args.sets args.last.now) (live_of args.w args.blocks args.sets args.first.now) args.area.now _ start.requires.5
-    (graph_told Kept c.reaching_graph-reaching.result c.reaching_graph-reaching.ensures c.keep_rows.ensures) c.if-keep_rows.true start.requires.7
+    let full = err_from_is_err_and c.from_residual.result c.from_residual.ensures.1 in
+    rw full.1 (both_full Kept kept_sizes (reach_of args.w args.blocks args.sets args.last.now) (live_of args.w args.blocks args.sets args.first.now) args.area.now _ start.requires.5
+    (graph_told Kept c.reaching_graph-reaching.result c.reaching_graph-reaching.ensures c.keep_rows.ensures) (ap is_err c.in_err-keep_rows.was) start.requires.7)
 
 pub live_graph-live-requires : goal.live_graph-live-requires
 live_graph-live-requires c = (c.requires.1, nothings (24 * c.args.w) 768 (omega (arith, c.requires.0.narrow)))
@@ -49,6 +52,6 @@ returns c =
     let start = c in
     let args = start.args in
     both_all Kept kept_sizes (reach_of args.w args.blocks args.sets args.last.now) (live_of args.w args.blocks args.sets args.first.now) args.area.now _ start.requires.5
-    (graph_told Kept c.reaching_graph-reaching.result c.reaching_graph-reaching.ensures c.keep_rows.ensures) c.if-keep_rows.false refl
+    (graph_told Kept c.reaching_graph-reaching.result c.reaching_graph-reaching.ensures c.keep_rows.ensures) (ap is_err c.in_ok-keep_rows.was) refl
     (graph_told Kept c.live_graph-live.result
     (live_turned args.w args.blocks args.sets args.first.now c.live_graph-live.result c.predecessors-before.ensures c.live_graph-live.ensures) c.keep_rows-2.ensures)

@@ -1,10 +1,12 @@
 -- `task_rows::gather_both` meets its contract: each kind has its part of the area. Assumes nothing.
 -- The idea: where the reaching states are too many, the answer is known without the live ones.
-use mathlib.Core.Path.{◌≡◌, refl}
+use mathlib.Core.Path.{◌≡◌, refl, ap}
 use Prim.Native.Nat.{◌*◌}
 use native.Mathlib.Omega.{arith}
 use lib.ListN.{length}
 use borrow.Author.Rules.{rules}
+use Rattle.std.specs.Result.{is_err}
+use Rattle.std.proofs.lemmas.Result.{err_from_is_err_and}
 use Rattle.gather.specs.Gathered.{GatheredAs}
 use Rattle.graphs.specs.Graphs.{reach_of, live_of}
 use Rattle.graphs.proofs.Gathered.{nothings, first-wide, reach_input, live_input, half_live, both_full, both-all, graph_asks, graph_told, live_turned}
@@ -22,12 +24,13 @@ gather-requires c =
     (reach_input args.w args.blocks start.requires.0 start.requires.1 start.requires.2 each
     (first-wide (24 * (32 * args.w)) args.area.now (omega (arith, start.requires.5))) start.requires.6 start.requires.4)
 
-pub returns-then-gather : goal.returns-then-gather
-returns-then-gather c =
+pub returns-in_err-gather : goal.returns-in_err-gather
+returns-in_err-gather c =
     let start = c in
     let args = start.args in
-    both_full (reach_of args.w args.blocks args.sets args.last.now) (live_of args.w args.blocks args.sets args.first.now) args.area.now _ start.requires.5
-    (graph_told GatheredAs c.reaching_graph-reaching.result c.reaching_graph-reaching.ensures c.gather.ensures) c.if-gather.true start.requires.7
+    let full = err_from_is_err_and c.from_residual.result c.from_residual.ensures.1 in
+    rw full.1 (both_full (reach_of args.w args.blocks args.sets args.last.now) (live_of args.w args.blocks args.sets args.first.now) args.area.now _ start.requires.5
+    (graph_told GatheredAs c.reaching_graph-reaching.result c.reaching_graph-reaching.ensures c.gather.ensures) (ap is_err c.in_err-gather.was) start.requires.7)
 
 pub live_graph-live-requires : goal.live_graph-live-requires
 live_graph-live-requires c = (c.requires.1, nothings (24 * c.args.w) 768 (omega (arith, c.requires.0.narrow)))
@@ -47,6 +50,6 @@ returns c =
     let start = c in
     let args = start.args in
     both-all (reach_of args.w args.blocks args.sets args.last.now) (live_of args.w args.blocks args.sets args.first.now) args.area.now _ start.requires.5
-    (graph_told GatheredAs c.reaching_graph-reaching.result c.reaching_graph-reaching.ensures c.gather.ensures) c.if-gather.false refl
+    (graph_told GatheredAs c.reaching_graph-reaching.result c.reaching_graph-reaching.ensures c.gather.ensures) (ap is_err c.in_ok-gather.was) refl
     (graph_told GatheredAs c.live_graph-live.result
     (live_turned args.w args.blocks args.sets args.first.now c.live_graph-live.result c.predecessors-before.ensures c.live_graph-live.ensures) c.gather-2.ensures)

@@ -57,4 +57,4 @@ returns c =
     let t = task_of (decode start.args.body.now) in
     let bounds = kept-bounds start.args.body.now start.requires.0 in
     let found = c.graphs-found.ensures in
-    reaching_kind k t bounds found.0 found.1 (lent_front (24 * w) (replicate 768 65535) (last_rows k t) c.graphs-found.ensures.3 (last_full k t bounds.few)) (graph_told GatheredAs c.reaching_graph-graph.result c.reaching_graph-graph.ensures c.gather.ensures)
+    rw c.is_err.ensures.value (reaching_kind k t bounds found.0 found.1 (lent_front (24 * w) (replicate 768 65535) (last_rows k t) c.graphs-found.ensures.3 (last_full k t bounds.few)) (graph_told GatheredAs c.reaching_graph-graph.result c.reaching_graph-graph.ensures c.gather.ensures))

@@ -54,4 +54,4 @@ returns c =
     let t = task_of (decode start.args.body.now) in
     let bounds = kept-bounds start.args.body.now start.requires.0 in
     let found = c.graphs-found.ensures in
-    area_rows k t bounds found.0 found.1 (lent_front (24 * w) (replicate 768 65535) (first_rows k t) c.graphs-found.ensures.2 (first_full_lem k t bounds.few)) (lent_front (24 * w) (replicate 768 65535) (last_rows k t) c.graphs-found.ensures.3 (last_full k t bounds.few)) c.gather_both.ensures
+    rw c.is_err.ensures.value (area_rows k t bounds found.0 found.1 (lent_front (24 * w) (replicate 768 65535) (first_rows k t) c.graphs-found.ensures.2 (first_full_lem k t bounds.few)) (lent_front (24 * w) (replicate 768 65535) (last_rows k t) c.graphs-found.ensures.3 (last_full k t bounds.few)) c.gather_both.ensures)

@@ -40,7 +40,14 @@ returns-then-below_some c =
 pub append_to-requires : goal.append_to-requires
 append_to-requires c = (c.requires.0, c.requires.1)
 
+pub returns-then-append_to : goal.returns-then-append_to
+returns-then-append_to c =
+    rw c.if-append_to.true at
+    (is-new c.args.rank c.args.s c.args.row.now c.args.rows.now c.args.counts.now c.requires.0 c.requires.1 (sym c.filled_row.ensures ∙ c.if-filled_row-rank.false)
+    (sym (lent_rows (length c.args.row.now) c.args.rows.now c.args.counts.now c.args.s c.args.row.now) ∙ sym c.below_some.ensures ∙ c.if-below_some.false) c.append_to.ensures)
+
 pub returns : goal.returns
 returns c =
-    is-new c.args.rank c.args.s c.args.row.now c.args.rows.now c.args.counts.now c.requires.0 c.requires.1 (sym c.filled_row.ensures ∙ c.if-filled_row-rank.false)
-    (sym (lent_rows (length c.args.row.now) c.args.rows.now c.args.counts.now c.args.s c.args.row.now) ∙ sym c.below_some.ensures ∙ c.if-below_some.false) c.append_to.ensures
+    rw c.if-append_to.false at
+    (is-new c.args.rank c.args.s c.args.row.now c.args.rows.now c.args.counts.now c.requires.0 c.requires.1 (sym c.filled_row.ensures ∙ c.if-filled_row-rank.false)
+    (sym (lent_rows (length c.args.row.now) c.args.rows.now c.args.counts.now c.args.s c.args.row.now) ∙ sym c.below_some.ensures ∙ c.if-below_some.false) c.append_to.ensures)

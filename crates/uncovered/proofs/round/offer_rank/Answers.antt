@@ -3,6 +3,8 @@ use mathlib.Core.Path.{◌≡◌, refl, sym, ap, ◌∙◌}
 use Prim.Native.Nat.{ℕ, ◌+◌, ◌-◌, ◌*◌, ◌≤◌, ◌<◌}
 use native.Mathlib.Omega.{arith}
 use lib.ListN.{length, get_or, take, drop}
+use Rattle.std.specs.Result.{is_err}
+use Rattle.std.proofs.lemmas.Result.{err_from_is_err_and}
 use Rattle.rows.proofs.Parts.{row_within}
 use Rattle.gather.specs.Memory.{held_rows}
 use Rattle.gather.specs.Gathered.{graph_meant}
@@ -30,8 +32,9 @@ overflow_mul-part c = omega (arith, c.requires.0.width.narrow)
 pub offer-requires : goal.offer-requires
 offer-requires c = (omega (arith, c.requires.0.inside, c.requires.0.few), c.requires.2)
 
-pub returns-then-offer : goal.returns-then-offer
-returns-then-offer c = rank_none (length c.args.graph.row.now) c.args.rank (c.args.graph.first, c.args.graph.row.now) (up_to (handed_from (graph_meant c.args.graph) (held_rows (length c.args.graph.row.now) c.args.old.now c.args.held.now)) c.args.graph.blocks) c.args.rows.now c.args.counts.now c.if-offer.true c.offer.ensures
+pub returns-in_err-offer : goal.returns-in_err-offer
+returns-in_err-offer c =
+    rw (err_from_is_err_and c.from_residual.result c.from_residual.ensures.1).1 (rank_none (length c.args.graph.row.now) c.args.rank (c.args.graph.first, c.args.graph.row.now) (up_to (handed_from (graph_meant c.args.graph) (held_rows (length c.args.graph.row.now) c.args.old.now c.args.held.now)) c.args.graph.blocks) c.args.rows.now c.args.counts.now (ap is_err c.in_err-offer.was) c.offer.ensures)
 
 pub loop-b-init : goal.loop-b-init
 loop-b-init c = (omega arith, took_none (length c.args.graph.row.now) _ _ c.offer.ensures.memory)
@@ -81,15 +84,15 @@ offer_rows-requires c = (
   memory_for (wide (goal.at.offer_rows-requires c).In-loop-b) c.loop-b.invariant.1.memory,
 )
 
-pub returns-then-offer_rows : goal.returns-then-offer_rows
-returns-then-offer_rows c =
-    rank_all (length c.args.graph.row.now) c.args.rank (c.args.graph.first, c.args.graph.row.now) (handed_from (graph_meant c.args.graph) (held_rows (length c.args.graph.row.now) c.args.old.now c.args.held.now)) c.args.graph.blocks c.args.rows.now c.args.counts.now (c.offer.ensures.all c.if-offer.false)
-    (turn_full (length c.args.graph.row.now) _ _ (becomes c.args.rank c.args.graph c.args.old.now c.args.held.now) c.loop-b.b c.loop-b.invariant.1 (block_taken (length c.args.graph.row.now) c.args.rank c.loop-b.b c.args.graph.blocks (get_or c.args.held.now c.loop-b.b 0) c.args.graph.sets.now c.args.graph.leaving.now c.args.graph.entering.now c.args.old.now c.args.held.now c.loop-b.rows c.loop-b.counts (get_or c.args.graph.sets.now c.loop-b.b 0) _ refl (part_at (length c.args.graph.row.now) c.loop-b.b c.args.graph.leaving.now) refl (wide (goal.at.returns-then-offer_rows c).In-loop-b) c.offer_rows.ensures) c.args.graph.blocks c.loop-b-test.true c.if-offer_rows.true)
+pub returns-in_err-offer_rows : goal.returns-in_err-offer_rows
+returns-in_err-offer_rows c =
+    rw (err_from_is_err_and c.from_residual-in_err-offer_rows.result c.from_residual-in_err-offer_rows.ensures.1).1 (rank_all (length c.args.graph.row.now) c.args.rank (c.args.graph.first, c.args.graph.row.now) (handed_from (graph_meant c.args.graph) (held_rows (length c.args.graph.row.now) c.args.old.now c.args.held.now)) c.args.graph.blocks c.args.rows.now c.args.counts.now (c.offer.ensures.all (ap is_err c.in_ok-offer.was))
+    (turn_full (length c.args.graph.row.now) _ _ (becomes c.args.rank c.args.graph c.args.old.now c.args.held.now) c.loop-b.b c.loop-b.invariant.1 (block_taken (length c.args.graph.row.now) c.args.rank c.loop-b.b c.args.graph.blocks (get_or c.args.held.now c.loop-b.b 0) c.args.graph.sets.now c.args.graph.leaving.now c.args.graph.entering.now c.args.old.now c.args.held.now c.loop-b.rows c.loop-b.counts (get_or c.args.graph.sets.now c.loop-b.b 0) _ refl (part_at (length c.args.graph.row.now) c.loop-b.b c.args.graph.leaving.now) refl (wide (goal.at.returns-in_err-offer_rows c).In-loop-b) c.offer_rows.ensures) c.args.graph.blocks c.loop-b-test.true (ap is_err c.in_err-offer_rows.was)))
 
 pub loop-b-preserved : goal.loop-b-preserved
-loop-b-preserved c = (omega (arith, c.loop-b-test.true), turn_more (length c.args.graph.row.now) _ _ (becomes c.args.rank c.args.graph c.args.old.now c.args.held.now) c.loop-b.b c.loop-b.invariant.1 (block_taken (length c.args.graph.row.now) c.args.rank c.loop-b.b c.args.graph.blocks (get_or c.args.held.now c.loop-b.b 0) c.args.graph.sets.now c.args.graph.leaving.now c.args.graph.entering.now c.args.old.now c.args.held.now c.loop-b.rows c.loop-b.counts (get_or c.args.graph.sets.now c.loop-b.b 0) _ refl (part_at (length c.args.graph.row.now) c.loop-b.b c.args.graph.leaving.now) refl (wide (goal.at.loop-b-preserved c).In-loop-b) c.offer_rows.ensures) c.if-offer_rows.false)
+loop-b-preserved c = (omega (arith, c.loop-b-test.true), turn_more (length c.args.graph.row.now) _ _ (becomes c.args.rank c.args.graph c.args.old.now c.args.held.now) c.loop-b.b c.loop-b.invariant.1 (block_taken (length c.args.graph.row.now) c.args.rank c.loop-b.b c.args.graph.blocks (get_or c.args.held.now c.loop-b.b 0) c.args.graph.sets.now c.args.graph.leaving.now c.args.graph.entering.now c.args.old.now c.args.held.now c.loop-b.rows c.loop-b.counts (get_or c.args.graph.sets.now c.loop-b.b 0) _ refl (part_at (length c.args.graph.row.now) c.loop-b.b c.args.graph.leaving.now) refl (wide (goal.at.loop-b-preserved c).In-loop-b) c.offer_rows.ensures) (ap is_err c.in_ok-offer_rows.was))
 
 pub returns : goal.returns
 returns c =
-    rank_all (length c.args.graph.row.now) c.args.rank (c.args.graph.first, c.args.graph.row.now) (handed_from (graph_meant c.args.graph) (held_rows (length c.args.graph.row.now) c.args.old.now c.args.held.now)) c.args.graph.blocks c.args.rows.now c.args.counts.now (c.offer.ensures.all c.if-offer.false)
+    rank_all (length c.args.graph.row.now) c.args.rank (c.args.graph.first, c.args.graph.row.now) (handed_from (graph_meant c.args.graph) (held_rows (length c.args.graph.row.now) c.args.old.now c.args.held.now)) c.args.graph.blocks c.args.rows.now c.args.counts.now (c.offer.ensures.all (ap is_err c.in_ok-offer.was))
     (turn_end (length c.args.graph.row.now) _ _ (becomes c.args.rank c.args.graph c.args.old.now c.args.held.now) c.loop-b.b c.loop-b.invariant.1 c.args.graph.blocks (omega arith))

@@ -4,6 +4,8 @@ use mathlib.Core.List.{[]}
 use Prim.Native.Nat.{ℕ, ◌+◌, ◌-◌, ◌*◌, ◌≤◌}
 use native.Mathlib.Omega.{arith}
 use lib.ListN.{length, get_or, take, drop}
+use Rattle.std.specs.Result.{is_err}
+use Rattle.std.proofs.lemmas.Result.{err_from_is_err_and}
 use Rattle.rows.specs.Rows.{rows_of}
 use Rattle.rows.proofs.Parts.{row_within}
 use Rattle.gather.proofs.Handing.{memory_for}
@@ -35,18 +37,18 @@ slice_bounds-offer_row-end c = omega (arith, (inside c).0, c.requires.1)
 pub offer_row-requires : goal.offer_row-requires
 offer_row-requires c = (c.requires.2, sym (inside (goal.at.offer_row-requires c).In-loop-k).2, c.requires.3 ∙ ap (λ (n : ℕ). 24 * n) (sym (inside (goal.at.offer_row-requires c).In-loop-k).2), memory_for (inside (goal.at.offer_row-requires c).In-loop-k).2 c.loop-k.invariant.1.memory)
 
-pub returns-then-offer_row : goal.returns-then-offer_row
-returns-then-offer_row c =
+pub returns-in_err-offer_row : goal.returns-in_err-offer_row
+returns-in_err-offer_row c =
     let made = row_taken (length c.args.over.now) c.args.rank c.args.set c.args.blocks _ (get_or (rows_of (length c.args.over.now) c.args.count c.args.part.now) c.loop-k.k []) c.args.over.now c.args.entering.now c.loop-k.rows c.loop-k.counts
-    (lent_is (length c.args.over.now) c.args.count c.loop-k.k c.args.part.now (omega arith)) (inside (goal.at.returns-then-offer_row c).In-loop-k).2 c.offer_row.ensures in
-    rows_taken (length c.args.over.now) c.args.rank c.args.set c.args.blocks c.args.count c.args.part.now c.args.over.now c.args.entering.now c.args.rows.now c.args.counts.now
-    (turn_full (length c.args.over.now) c.args.rows.now c.args.counts.now (becomes c.args.rank c.args.part.now c.args.count c.args.over.now c.args.set c.args.blocks c.args.entering.now) c.loop-k.k c.loop-k.invariant.1 made c.args.count (omega arith) c.if-offer_row.true)
+    (lent_is (length c.args.over.now) c.args.count c.loop-k.k c.args.part.now (omega arith)) (inside (goal.at.returns-in_err-offer_row c).In-loop-k).2 c.offer_row.ensures in
+    rw (err_from_is_err_and c.from_residual.result c.from_residual.ensures.1).1 (rows_taken (length c.args.over.now) c.args.rank c.args.set c.args.blocks c.args.count c.args.part.now c.args.over.now c.args.entering.now c.args.rows.now c.args.counts.now
+    (turn_full (length c.args.over.now) c.args.rows.now c.args.counts.now (becomes c.args.rank c.args.part.now c.args.count c.args.over.now c.args.set c.args.blocks c.args.entering.now) c.loop-k.k c.loop-k.invariant.1 made c.args.count (omega arith) (ap is_err c.in_err-offer_row.was)))
 
 pub loop-k-preserved : goal.loop-k-preserved
 loop-k-preserved c =
     let made = row_taken (length c.args.over.now) c.args.rank c.args.set c.args.blocks _ (get_or (rows_of (length c.args.over.now) c.args.count c.args.part.now) c.loop-k.k []) c.args.over.now c.args.entering.now c.loop-k.rows c.loop-k.counts
     (lent_is (length c.args.over.now) c.args.count c.loop-k.k c.args.part.now (omega arith)) (inside (goal.at.loop-k-preserved c).In-loop-k).2 c.offer_row.ensures in
-    (omega arith, turn_more (length c.args.over.now) c.args.rows.now c.args.counts.now (becomes c.args.rank c.args.part.now c.args.count c.args.over.now c.args.set c.args.blocks c.args.entering.now) c.loop-k.k c.loop-k.invariant.1 made c.if-offer_row.false)
+    (omega arith, turn_more (length c.args.over.now) c.args.rows.now c.args.counts.now (becomes c.args.rank c.args.part.now c.args.count c.args.over.now c.args.set c.args.blocks c.args.entering.now) c.loop-k.k c.loop-k.invariant.1 made (ap is_err c.in_ok-offer_row.was))
 
 pub returns : goal.returns
 returns c =

@@ -3,6 +3,8 @@ use mathlib.Core.Path.{refl, sym, ap, ◌∙◌}
 use Prim.Native.Nat.{ℕ, ◌%◌}
 use native.Mathlib.Omega.{arith}
 use lib.ListN.{length, length-replicate}
+use Rattle.std.specs.Result.{is_err}
+use Rattle.std.proofs.lemmas.Result.{err_from_is_err_and}
 use Rattle.gather.specs.Gathered.{graph_meant}
 use Rattle.gather.proofs.Gathering.{cleared}
 use Rattle.uncovered.proofs.Taking.{input_for}
@@ -30,8 +32,9 @@ slice_bounds-round-end c = sym c.loop-k.invariant.2
 pub round-requires : goal.round-requires
 round-requires c = (input_for c.requires.0 c.loop-k.invariant.1 c.loop-k.invariant.2, c.loop-k.invariant.3.memory)
 
-pub returns-then-round : goal.returns-then-round
-returns-then-round c = record { memory = c.loop-k.invariant.3.memory; rounds = end_full (graph_meant c.args.graph) c.requires.0.few c.requires.0.inside refl c.loop-k.k c.loop-k.invariant.3 c.round.ensures c.if-round.true (omega arith) }
+pub returns-in_err-round : goal.returns-in_err-round
+returns-in_err-round c =
+    rw (err_from_is_err_and c.from_residual.result c.from_residual.ensures.1).1 (record { memory = c.loop-k.invariant.3.memory; rounds = end_full (graph_meant c.args.graph) c.requires.0.few c.requires.0.inside refl c.loop-k.k c.loop-k.invariant.3 c.round.ensures (ap is_err c.in_err-round.was) (omega arith) })
 
 pub slice_bounds-nothing_new-end : goal.slice_bounds-nothing_new-end
 slice_bounds-nothing_new-end c = sym c.round.ensures.memory.many
@@ -43,7 +46,7 @@ pub shape_of-room-then-nothing_new : goal.shape_of-room-then-nothing_new
 shape_of-room-then-nothing_new c = c.round.ensures.memory.long ∙ sym c.requires.1
 
 pub returns-then-nothing_new : goal.returns-then-nothing_new
-returns-then-nothing_new c = record { memory = c.loop-k.invariant.3.memory; rounds = end_same (graph_meant c.args.graph) c.requires.0.few c.requires.0.inside refl c.loop-k.k c.loop-k.invariant.3 c.round.ensures c.if-round.false (sym c.nothing_new.ensures ∙ c.if-nothing_new.true) (omega arith) }
+returns-then-nothing_new c = record { memory = c.loop-k.invariant.3.memory; rounds = end_same (graph_meant c.args.graph) c.requires.0.few c.requires.0.inside refl c.loop-k.k c.loop-k.invariant.3 c.round.ensures (ap is_err c.in_ok-round.was) (sym c.nothing_new.ensures ∙ c.if-nothing_new.true) (omega arith) }
 
 pub copy_row-requires : goal.copy_row-requires
 copy_row-requires c = (ap (λ (n : ℕ). n % 16) c.round.ensures.memory.long ∙ kind_chunks (length c.args.graph.row.now) c.requires.0.width.chunks, c.loop-k.invariant.3.memory.long ∙ sym c.round.ensures.memory.long)
@@ -55,7 +58,7 @@ pub copy_from_slice-requires : goal.copy_from_slice-requires
 copy_from_slice-requires c = c.loop-k.invariant.3.memory.many ∙ sym c.round.ensures.memory.many
 
 pub loop-k-preserved : goal.loop-k-preserved
-loop-k-preserved c = (omega arith, c.round.ensures.memory.long, c.round.ensures.memory.many, after_more (graph_meant c.args.graph) c.requires.0.few c.requires.0.inside refl c.loop-k.k c.loop-k.invariant.3 c.round.ensures c.if-round.false c.copy_row.ensures c.copy_from_slice.ensures.after)
+loop-k-preserved c = (omega arith, c.round.ensures.memory.long, c.round.ensures.memory.many, after_more (graph_meant c.args.graph) c.requires.0.few c.requires.0.inside refl c.loop-k.k c.loop-k.invariant.3 c.round.ensures (ap is_err c.in_ok-round.was) c.copy_row.ensures c.copy_from_slice.ensures.after)
 
 pub returns : goal.returns
 returns c = record { memory = c.loop-k.invariant.3.memory; rounds = end-rounds (graph_meant c.args.graph) c.requires.0.few c.requires.0.inside refl c.loop-k.k (omega arith) c.loop-k.invariant.3 }
