@@ -11,10 +11,13 @@ use lib.Dec.{eqb, leb}
 use lib.ListN.{get_or, length, set}
 use lib.Seq.{get_or-set_same, get_or-set_other}
 use borrow.Author.Tests.{eqb-true, eqb-false, eq-eqb, ne_eqb, leb-true, leb-false}
-use Rattle.cache.specs.Sum.{sum}
+use Rattle.std.specs.Prelude.{Option, Some, None}
+use Rattle.cache.specs.Sum.{sum, bit}
 use Rattle.cache.proofs.Sums.{sum_cong, sum_le}
 use Rattle.response.specs.Response.{ceil, g, cost, right_side, Answer, within, late, first_from, answer, response_time, demand}
 use Rattle.response.specs.Iteration.{load, Below}
+use Rattle.response.specs.declared.Record.{Record}
+use Rattle.response.specs.Times.{met, with_response}
 
 -- ---- rounding up
 
@@ -244,3 +247,39 @@ module _ (c c' t t' : ℕ → ℕ) (pair pair' : ℕ → ℕ → ℕ) (penalty i
   same_response d d' times deadline pairs =
       same_answer (right_side c t pair penalty i) (right_side c' t' pair' penalty i) (d i) (same_right times pairs)
       ∙ ap (λ (k : ℕ). answer (right_side c' t' pair' penalty i) k) deadline
+
+-- ---- an R, or none
+
+pub met_some : {x r : ℕ} → 0 < r → r ≡ x → Some r ≡ met x
+met_some {r = r} h e = rw (← e, ne_eqb r 0 (λ z. omega arith))
+
+pub met_none : {x : ℕ} → 0 ≡ x → None ≡ met x
+met_none e = ap met e
+
+none_is_no_r : {r : ℕ} → ◌≡◌ {A = Option ℕ} None (Some r) → ⊥
+none_is_no_r e = cc
+
+-- R of which a task is told, and that there is none
+pub is_met : (x : ℕ) {r : ℕ} → met x ≡ Some r → (x ≡ r) × (eqb x 0 ≡ false)
+is_met x {r} e = go (eqb x 0) refl
+  where
+    go : (b : Bool) → eqb x 0 ≡ b → (x ≡ r) × (eqb x 0 ≡ false)
+    go true q = let none : ◌≡◌ {A = Option ℕ} None (Some r) = rw q at e in absurd (none_is_no_r none)
+    go false q = let told : ◌≡◌ {A = Option ℕ} (Some x) (Some r) = rw q at e in (cc, q)
+
+pub is_none : (x : ℕ) → met x ≡ None → eqb x 0 ≡ true
+is_none x e = go (eqb x 0) refl
+  where
+    go : (b : Bool) → eqb x 0 ≡ b → eqb x 0 ≡ true
+    go true q = q
+    go false q = let told : ◌≡◌ {A = Option ℕ} (Some x) None = rw q at e in absurd (none_is_no_r (sym told))
+
+-- the record with R and a mark
+abbrev the_record : Record → ℕ → ℕ → Record
+the_record task n m = record { c = task.c; t = task.t; d = task.d; r = n; late = m }
+
+pub with_r : (task : Record) (x : ℕ) {r : ℕ} → met x ≡ Some r → record { c = task.c; t = task.t; d = task.d; r = r; late = 0 } ≡ with_response task x
+with_r task x e = let (same, some) = is_met x e in ap₂ (λ (n m : ℕ). the_record task n m) (sym same) (sym (ap bit some))
+
+pub with_none : (task : Record) (x : ℕ) → met x ≡ None → record { c = task.c; t = task.t; d = task.d; r = 0; late = 1 } ≡ with_response task x
+with_none task x e = let late = is_none x e in ap₂ (λ (n m : ℕ). the_record task n m) (sym (eqb-true x 0 late)) (sym (ap bit late))

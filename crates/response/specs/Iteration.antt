@@ -2,6 +2,7 @@
 use Rattle.std.specs.Prelude.{◌≡◌, cond, List, ℕ, ◌*◌, ◌-◌, ◌/◌, ◌≤◌, ◌<◌, leb, get_or}
 use Rattle.cache.specs.Sum.{sum}
 use Rattle.response.specs.Response.{ceil}
+use Rattle.response.specs.declared.Higher.{Higher}
 
 -- the shares of their time that the tasks below i ask for, each cost / period times 2 ^ 30, rounded down
 unfoldable pub load : List ℕ → List ℕ → ℕ → ℕ
@@ -17,3 +18,10 @@ pub record Below (f : ℕ → ℕ) (r : ℕ) : Type 0 where
   pub positive : 0 < r
   pub rises : r ≤ f r
   pub under : (s : ℕ) → 0 < s → s ≡ f s → r ≤ s
+
+-- tasks in order: at most eight, the periods 1 to 1,000,000, and no release that costs more than 1,000,000,000
+pub record Bounded (h : Higher) : Type 0 where
+  pub few : h.count ≤ 8
+  pub some : (j : ℕ) → j < h.count → 0 < get_or h.periods j 0
+  pub short : (j : ℕ) → j < h.count → get_or h.periods j 0 ≤ 1000000
+  pub cheap : (j : ℕ) → j < h.count → get_or h.costs j 0 ≤ 1000000000

@@ -1,5 +1,5 @@
 -- Document 02, Point 8: the records of a response time list, and their times by value. Definitions only.
-use Rattle.std.specs.Prelude.{List, [], ◌∷◌, ℕ, zero, suc, ◌+◌, ◌*◌, ◌≤◌, ◌<◌, eqb, get_or, set, replicate}
+use Rattle.std.specs.Prelude.{cond, Option, Some, None, List, [], ◌∷◌, ℕ, zero, suc, ◌+◌, ◌*◌, ◌≤◌, ◌<◌, eqb, get_or, set, replicate}
 use Rattle.cache.specs.Sum.{bit}
 use Rattle.response.specs.declared.Record.{Record}
 use Rattle.response.specs.declared.Times.{Times}
@@ -25,6 +25,10 @@ record_response xs pair penalty i = answer (record_side xs pair penalty i) (reco
 -- "A task with no such R up to D is marked late with R = 0, and only then.": the mark of a task with R, or with 0
 abbrev pub late_mark : ℕ → ℕ
 late_mark r = bit (eqb r 0)
+
+-- an R, or none where the task is late
+abbrev pub met : ℕ → Option ℕ
+met r = cond (eqb r 0) None (Some r)
 
 -- "only R and the late mark change": the record with both set
 abbrev pub with_response : Record → ℕ → Record

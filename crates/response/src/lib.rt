@@ -3,8 +3,8 @@
 
 ghost use Rattle.std.specs.Prelude.{◌≡◌, ℕ, ◌≤◌, ◌<◌, ◌+◌, ◌^◌, get_or, length};
 ghost use Rattle.response.specs.Response.{ceil, g, cost, demand, answer};
-ghost use Rattle.response.specs.Iteration.{load, earliest_of, Below};
-ghost use Rattle.response.specs.Times.{late_mark, with_response, no_times, timed, times_response, TaskTimes, table_pair};
+ghost use Rattle.response.specs.Iteration.{load, earliest_of, Below, Bounded};
+ghost use Rattle.response.specs.Times.{met, with_response, no_times, timed, times_response, TaskTimes, table_pair};
 
 // A task's execution time, period and deadline, its response time, and the late mark: 1 where it is late, else 0. The mark is a byte, so that any
 // one that a C program leaves there can be read.
@@ -41,67 +41,70 @@ fn releases(r: u64, period: u64) -> u64
     (r + (period - 1)) / period
 }
 
-// What the task and the higher tasks ask for in a time of r.
-fn asked(c: u64, periods: [u64; 8], costs: [u64; 8], i: usize, r: u64) -> u64
-    requires { (i ≤ 8) × (c ≤ 1000000) × (r ≤ 1000000)
-        × ((j : ℕ) → j < i → (0 < get_or periods j 0) × (get_or periods j 0 ≤ 1000000) × (get_or costs j 0 ≤ 1000000000)) }
-    ensures { result ≡ demand c periods costs i r }
-{
-    let mut sum = c;
-    for j in 0..i {
-        sum += releases(r, periods[j]) * costs[j];
-    }
-    sum
+// The tasks above one task: how many, and of each the period and what a release of it costs that task.
+#[derive(Clone, Copy)]
+struct Higher {
+    periods: [u64; 8],
+    costs: [u64; 8],
+    count: usize,
 }
 
-// The shares of its time that the higher tasks ask for, each rounded down.
-fn shares(periods: [u64; 8], costs: [u64; 8], i: usize) -> u64
-    requires { (i ≤ 8) × ((j : ℕ) → j < i → (0 < get_or periods j 0) × (get_or periods j 0 ≤ 1000000) × (get_or costs j 0 ≤ 1000000000)) }
-    ensures { result ≡ load periods costs i }
-{
-    let mut sum: u64 = 0;
-    for j in 0..i {
-        sum += costs[j] * WHOLE / periods[j];
-    }
-    sum
-}
-
-// A number not above any that meets the equation: c / (1 - the shares), rounded up. Where the shares are the whole time or more, no number meets
-// the equation, and one above each deadline will do.
-fn earliest(c: u64, periods: [u64; 8], costs: [u64; 8], i: usize) -> u64
-    requires { (i ≤ 8) × (0 < c) × (c ≤ 1000000)
-        × ((j : ℕ) → j < i → (0 < get_or periods j 0) × (get_or periods j 0 ≤ 1000000) × (get_or costs j 0 ≤ 1000000000)) }
-    ensures { (result ≡ earliest_of c periods costs i) × Below (demand c periods costs i) result }
-{
-    let taken = shares(periods, costs, i);
-    if WHOLE <= taken {
-        return LARGEST_TIME + 1;
-    }
-    releases(c * WHOLE, WHOLE - taken)
-}
-
-// The least number up to d that meets the equation, or 0.
-fn response(c: u64, d: u64, periods: [u64; 8], costs: [u64; 8], i: usize) -> u64
-    requires { (i ≤ 8) × (0 < c) × (c ≤ 1000000) × (d ≤ 1000000)
-        × ((j : ℕ) → j < i → (0 < get_or periods j 0) × (get_or periods j 0 ≤ 1000000) × (get_or costs j 0 ≤ 1000000000)) }
-    ensures { result ≡ answer (demand c periods costs i) d }
-{
-    let mut r = earliest(c, periods, costs, i);
-    while r <= d {
-        let next = asked(c, periods, costs, i, r);
-        if next == r {
-            return r;
+impl Higher {
+    // What a task of the execution time c and the higher tasks ask for in a time of r.
+    fn asked(&self, c: u64, r: u64) -> u64
+        requires { Bounded self.now × (c ≤ 1000000) × (r ≤ 1000000) }
+        ensures { result ≡ demand c self.now.periods self.now.costs self.now.count r }
+    {
+        let mut sum = c;
+        // By index: the period and the cost of a task are read at the same place.
+        for j in 0..self.count {
+            sum += releases(r, self.periods[j]) * self.costs[j];
         }
-        r = next;
+        sum
     }
-    0
-}
 
-// A number of 16 bits, as one of 64.
-fn widened(x: u16) -> u64
-    ensures { (result ≡ x) × (result < 65536) }
-{
-    x as u64
+    // The shares of its time that the higher tasks ask for, each rounded down.
+    fn shares(&self) -> u64
+        requires { Bounded self.now }
+        ensures { result ≡ load self.now.periods self.now.costs self.now.count }
+    {
+        let mut sum: u64 = 0;
+        // By index: the period and the cost of a task are read at the same place.
+        for j in 0..self.count {
+            sum += self.costs[j] * WHOLE / self.periods[j];
+        }
+        sum
+    }
+
+    // A number not above any that meets the equation: c / (1 - the shares), rounded up. Where the shares are the whole time or more, no number
+    // meets the equation, and one above each deadline will do.
+    fn earliest(&self, c: u64) -> u64
+        requires { Bounded self.now × (0 < c) × (c ≤ 1000000) }
+        ensures { (result ≡ earliest_of c self.now.periods self.now.costs self.now.count)
+            × Below (demand c self.now.periods self.now.costs self.now.count) result }
+    {
+        let taken = self.shares();
+        if WHOLE <= taken {
+            return LARGEST_TIME + 1;
+        }
+        releases(c * WHOLE, WHOLE - taken)
+    }
+
+    // The least number up to d that meets the equation, if there is one.
+    fn response(&self, c: u64, d: u64) -> Option<u64>
+        requires { Bounded self.now × (0 < c) × (c ≤ 1000000) × (d ≤ 1000000) }
+        ensures { result ≡ met (answer (demand c self.now.periods self.now.costs self.now.count) d) }
+    {
+        let mut r = self.earliest(c);
+        while r <= d {
+            let next = self.asked(c, r);
+            if next == r {
+                return Some(r);
+            }
+            r = next;
+        }
+        None
+    }
 }
 
 // The pair numbers by j of the tasks j + 1 to i.
@@ -110,92 +113,71 @@ fn pairs_by(numbers: &[u16], i: usize, j: usize) -> u64
     ensures { (result ≡ g (table_pair numbers.now) i j) × (result ≤ 524280) }
 {
     let mut sum: u64 = 0;
+    // By index: the numbers of a column stand eight places apart.
     for k in 0..i - j {
-        sum += widened(numbers[8 * (j + 1 + k) + j]);
+        sum += u64::from(numbers[8 * (j + 1 + k) + j]);
     }
     sum
 }
 
-// For each task above i, its execution time and what its preemptions cost.
-fn costs_of(times: Times, numbers: &[u16], penalty: u64, i: usize) -> [u64; 8]
-    requires { (length numbers.now ≡ 64) × (i < 8) × (penalty ≤ 1000) × ((j : ℕ) → j < i → TaskTimes times j) }
-    ensures { (j : ℕ) → j < i → (get_or result j 0 ≡ cost (λ k. get_or times.c k 0) (table_pair numbers.now) penalty i j)
-        × (get_or result j 0 ≤ 1000000000) }
+// The tasks above i: each costs its execution time and what its preemptions cost.
+fn higher_than(times: &Times, numbers: &[u16], penalty: u64, i: usize) -> Higher
+    requires { (length numbers.now ≡ 64) × (i < 8) × (penalty ≤ 1000) × ((j : ℕ) → j < i → TaskTimes times.now j) }
+    ensures { Bounded result × (result.periods ≡ times.now.t) × (result.count ≡ i)
+        × ((j : ℕ) → j < i → get_or result.costs j 0 ≡ cost (λ k. get_or times.now.c k 0) (table_pair numbers.now) penalty i j) }
 {
     let mut costs = [0u64; 8];
-    let own = times.c;
     for j in 0..i {
-        costs[j] = own[j] + penalty * pairs_by(numbers, i, j);
+        costs[j] = times.c[j] + penalty * pairs_by(numbers, i, j);
     }
-    costs
+    Higher {
+        periods: times.t,
+        costs,
+        count: i,
+    }
 }
 
-// R of task i, or 0 where it is late.
-fn response_of(times: Times, numbers: &[u16], penalty: u64, i: usize) -> u64
-    requires { (length numbers.now ≡ 64) × (i < 8) × (penalty ≤ 1000) × ((j : ℕ) → j < i + 1 → TaskTimes times j) }
-    ensures { (result ≡ times_response times (table_pair numbers.now) penalty i) × (result ≤ 1000001) }
+// R of task i, or none where it is late.
+fn response_of(times: &Times, numbers: &[u16], penalty: u64, i: usize) -> Option<u64>
+    requires { (length numbers.now ≡ 64) × (i < 8) × (penalty ≤ 1000) × ((j : ℕ) → j < i + 1 → TaskTimes times.now j) }
+    ensures { (result ≡ met (times_response times.now (table_pair numbers.now) penalty i))
+        × (times_response times.now (table_pair numbers.now) penalty i ≤ 1000001) }
 {
-    let own = times.c;
-    let periods = times.t;
-    let deadlines = times.d;
-    response(
-        own[i],
-        deadlines[i],
-        periods,
-        costs_of(times, numbers, penalty, i),
-        i,
-    )
-}
-
-// The late mark for R, or 0 where there is none.
-fn late_mark(r: u64) -> u8
-    ensures { result ≡ late_mark r }
-{
-    if r == 0 { 1 } else { 0 }
+    higher_than(times, numbers, penalty, i).response(times.c[i], times.d[i])
 }
 
 // The record with R and the late mark set; the times stay.
-pub fn answered(task: Record, times: Times, numbers: &[u16], penalty: u64, i: usize) -> Record
-    requires { (length numbers.now ≡ 64) × (i < 8) × (penalty ≤ 1000) × ((j : ℕ) → j < i + 1 → TaskTimes times j) }
-    ensures { result ≡ with_response task (times_response times (table_pair numbers.now) penalty i) }
+pub fn answered(task: Record, times: &Times, numbers: &[u16], penalty: u64, i: usize) -> Record
+    requires { (length numbers.now ≡ 64) × (i < 8) × (penalty ≤ 1000) × ((j : ℕ) → j < i + 1 → TaskTimes times.now j) }
+    ensures { result ≡ with_response task (times_response times.now (table_pair numbers.now) penalty i) }
 {
-    let r = response_of(times, numbers, penalty, i);
-    Record {
-        c: task.c,
-        t: task.t,
-        d: task.d,
-        r: r as u32,
-        late: late_mark(r),
+    let (r, late) = match response_of(times, numbers, penalty, i) {
+        Some(r) => (r as u32, 0),
+        None => (0, 1),
+    };
+    Record { r, late, ..task }
+}
+
+impl Times {
+    // No times yet, of `count` tasks.
+    pub fn none(count: usize) -> Times
+        ensures { result ≡ no_times count }
+    {
+        Times {
+            c: [0; 8],
+            t: [0; 8],
+            d: [0; 8],
+            count,
+        }
     }
-}
 
-// No times yet, of `count` tasks.
-pub fn no_times(count: usize) -> Times
-    ensures { result ≡ no_times count }
-{
-    Times {
-        c: [0; 8],
-        t: [0; 8],
-        d: [0; 8],
-        count,
+    // The times of task i become those of its record.
+    pub fn set(&mut self, i: usize, task: &Record)
+        requires { i < 8 }
+        ensures { self.new ≡ timed self.old i task.now }
+    {
+        self.c[i] = u64::from(task.c);
+        self.t[i] = u64::from(task.t);
+        self.d[i] = u64::from(task.d);
     }
-}
-
-// A number of 32 bits, as one of 64.
-pub fn wide(x: u32) -> u64
-    ensures { result ≡ x }
-{
-    x as u64
-}
-
-// The times with those of task i.
-pub fn with_record(times: Times, i: usize, task: Record) -> Times
-    requires { i < 8 }
-    ensures { result ≡ timed times i task }
-{
-    let mut next = times;
-    next.c[i] = wide(task.c);
-    next.t[i] = wide(task.t);
-    next.d[i] = wide(task.d);
-    next
 }

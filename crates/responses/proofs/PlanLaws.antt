@@ -25,8 +25,8 @@ use Rattle.response.specs.Times.{record_of, no_times, times_response, record_res
 use Rattle.response.proofs.ResponseLaws.{same_response}
 use Rattle.responses.specs.declared.plan.Plan.{Plan}
 use Rattle.responses.specs.Responses.{largest_time, Fault1, test1, Fault21, any, wrong_record, test21, response_check, response_answer, response_after}
-use Rattle.responses.specs.Plan.{few_of, times_of, wrong_at, times_test21, plan_check, plan_made, plan_of, plan_response, Ready}
-use Rattle.responses.proofs.TimesLaws.{few-all, any_cong, any_none, times_count, times_at}
+use Rattle.responses.specs.Plan.{times_of, wrong_at, times_test21, plan_check, plan_made, plan_of, plan_response, Ready}
+use Rattle.responses.proofs.TimesLaws.{any_cong, any_none, times_count, times_at}
 use Rattle.responses.proofs.ListLaws.{set_same}
 
 module _ (w : ℕ) (s area : List ℕ) (x : Times) (penalty : ℕ) {answer : Checked} (told : answer ≡ table_answer w s area (replicate 64 0)) where
@@ -84,10 +84,10 @@ module _ (w : ℕ) (s area : List ℕ) (xs : List Record) (penalty : ℕ) where
   zeros = replicate 64 0
 
   count-is : x.count ≡ length xs
-  count-is = times_count (no_times (length xs)) 0 (take (few_of (length xs)) xs)
+  count-is = times_count (no_times (length xs)) 0 (take 8 xs)
 
   same_wrong : (i : ℕ) → length xs ≤ 8 → i < length xs → wrong_record xs i ≡ wrong_at x i
-  same_wrong i few l = let (c, p, d) = times_at xs i (omega (arith, few-all (length xs) few)) in rw (c, p, d) refl
+  same_wrong i few l = let (c, p, d) = times_at xs i l (omega arith) in rw (c, p, d) refl
 
   -- check 21 by the records is that by the times
   same_21 : t ≤ 8 → test21 t xs penalty ≡ times_test21 t x penalty
@@ -148,8 +148,8 @@ module _ (w : ℕ) (s area : List ℕ) (xs : List Record) (penalty : ℕ) where
   same_time p i l =
       same_response (λ j. get_or x.c j 0) (λ j. (record_of xs j).c) (λ j. get_or x.t j 0) (λ j. (record_of xs j).t) (table_pair (table_after w s area zeros)) (file_pair s) penalty i
       (λ j. get_or x.d j 0) (λ j. (record_of xs j).d)
-      (λ j m. let (c, q, d) = times_at xs j (omega (arith, few-all (length xs) p.few)) in (sym c, sym q))
-      (let (c, q, d) = times_at xs i (omega (arith, few-all (length xs) p.few)) in sym d)
+      (λ j m. let (c, q, d) = times_at xs j (omega arith) (omega (arith, p.few)) in (sym c, sym q))
+      (let (c, q, d) = times_at xs i l (omega (arith, p.few)) in sym d)
       (λ h j a b.
       ap (λ (m : List ℕ). get_or m (8 * h + j) 0) p.table ∙ table_place s h j (omega (arith, p.few)) (omega (arith, p.few))
       ∙ rw (lt-ltb h t (omega (arith, p.all)), lt-ltb j t (omega (arith, p.all)), ne_eqb h j (λ z. omega arith)) refl)

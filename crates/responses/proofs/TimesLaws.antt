@@ -3,41 +3,21 @@ use mathlib.Core.Path.{◌≡◌, refl, sym, ap, ap₂, subst, ◌∙◌}
 use mathlib.Core.Logic.{◌⊎◌, inl, inr}
 use mathlib.Core.Bool.{Bool, true, false, ◌||◌, false≢true}
 use mathlib.Core.List.{List, [], ◌∷◌, map}
-use Prim.Native.Nat.{ℕ, zero, suc, ◌+◌, ◌≤◌, ◌<◌}
+use Prim.Native.Nat.{ℕ, zero, suc, ◌+◌, ◌≤◌, ◌<◌, min}
 use native.Mathlib.Nat.{not-suc-le-zero, le_refl}
 use native.Mathlib.Numerals.{add-one}
 use native.Mathlib.Omega.{arith}
 use lib.Dec.{eqb, leb}
-use lib.ListN.{length, get_or, set, take, drop, drop_of_length-le, length-set}
-use lib.Seq.{drop-cons, get_or-take, length-take-le, get_or-set_same, get_or-set_other}
-use borrow.Author.Tests.{leb-true, leb-false, le-leb, lt-leb, eqb-true, eqb-false}
+use lib.ListN.{length, get_or, set, take, drop, drop_of_length-le, length-set, length-take}
+use lib.Seq.{take_all, drop-cons, get_or-take, get_or-set_same, get_or-set_other}
+use borrow.Author.Tests.{leb-true, leb-false, eqb-true, eqb-false}
 use Rattle.model.proofs.Membership.{or_cases, or_left, or_right}
 use Rattle.project.proofs.Accepted.{or_false_left, or_false_right}
 use Rattle.response.specs.declared.Record.{Record}
 use Rattle.response.specs.declared.Times.{Times}
 use Rattle.response.specs.Times.{no_record, record_of, no_times, timed}
 use Rattle.responses.specs.Responses.{any}
-use Rattle.responses.specs.Plan.{pick, few_of, times_with, times_of}
-
-pub few-all : (n : ℕ) → n ≤ 8 → n ≡ few_of n
-few-all n h = rw (le-leb n 8 h) refl
-
-pub few_eight : (n : ℕ) → 8 < n → 8 ≡ few_of n
-few_eight n h = rw (lt-leb n 8 h) refl
-
-pub few-is : (n : ℕ) → few_of n ≤ 8
-few-is n = go (leb n 8) refl
-  where
-    go : (b : Bool) → leb n 8 ≡ b → pick b n 8 ≤ 8
-    go true e = leb-true n 8 e
-    go false e = omega arith
-
-pub few-within : (n : ℕ) → few_of n ≤ n
-few-within n = go (leb n 8) refl
-  where
-    go : (b : Bool) → leb n 8 ≡ b → pick b n 8 ≤ n
-    go true e = omega arith
-    go false e = omega (arith, leb-false n 8 e)
+use Rattle.responses.specs.Plan.{times_with, times_of}
 
 -- ---- tests of numbers
 
@@ -73,6 +53,14 @@ any_some test (suc n) e = go (or_cases (any n test) (test n) e) (λ p. any_some 
     go (inr q) ih = (n, omega arith, q)
 
 -- ---- the loop that gathers the times: ys are the records gathered
+
+-- the first eight records, as the code lends them
+pub first_eight : (xs : List Record) {n : ℕ} → n ≡ min (length xs) 8 → take n xs ≡ take 8 xs
+first_eight xs {n} e = go (leb (length xs) 8) refl
+  where
+    go : (b : Bool) → leb (length xs) 8 ≡ b → take n xs ≡ take 8 xs
+    go true q = let l = leb-true (length xs) 8 q in take_all n xs (omega arith) ∙ sym (take_all 8 xs l)
+    go false q = let l = leb-false (length xs) 8 q in let m : n ≡ 8 = omega arith in ap (λ (k : ℕ). take k xs) m
 
 pub times_turn : (x : Times) (i : ℕ) (ys : List Record) (d : Record) {r : Record} → i < length ys → r ≡ get_or ys i d
     → times_with (timed x i r) (i + 1) (drop (i + 1) ys) ≡ times_with x i (drop i ys)
@@ -137,19 +125,16 @@ unfolding times_with puts
 times_d x i [] = refl
 times_d x i (r ∷ ys) = times_d (timed x i r) (i + 1) ys
 
-module _ (xs : List Record) (k : ℕ) (h : k < few_of (length xs)) where
+module _ (xs : List Record) (k : ℕ) (h : k < length xs) (few : k < 8) where
   abbrev ys : List Record
-  ys = take (few_of (length xs)) xs
-
-  long : length ys ≡ few_of (length xs)
-  long = length-take-le (few_of (length xs)) xs (few-within (length xs))
+  ys = take 8 xs
 
   at : (f : Record → ℕ) → f no_record ≡ 0 → (l m : List ℕ) → length l ≡ 8 → m ≡ puts l 0 (map f ys) → f (record_of xs k) ≡ get_or m k 0
   at f z l m e q =
       let o : 0 + k ≡ k = omega arith in
-      let p = puts_at l 0 (map f ys) k (omega (arith, map-long f ys, long, few-is (length xs))) (omega (arith, map-long f ys, long)) in
+      let p = puts_at l 0 (map f ys) k (omega (arith, map-long f ys, length-take 8 xs)) (omega (arith, map-long f ys, length-take 8 xs)) in
       sym (ap (λ (n : List ℕ). get_or n k 0) q ∙ ap (λ (i : ℕ). get_or (puts l 0 (map f ys)) i 0) (sym o) ∙ p ∙ field_at f z ys k
-      ∙ ap f (get_or-take (few_of (length xs)) xs k no_record h))
+      ∙ ap f (get_or-take 8 xs k no_record few))
 
   pub times_at : ((record_of xs k).c ≡ get_or (times_of xs).c k 0) × ((record_of xs k).t ≡ get_or (times_of xs).t k 0) × ((record_of xs k).d ≡ get_or (times_of xs).d k 0)
   times_at =

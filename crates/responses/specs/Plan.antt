@@ -1,5 +1,5 @@
 -- What is to be set in a response time list, as the call decides it. Definitions only.
-use Rattle.std.specs.Prelude.{Bool, true, false, not, ◌||◌, List, [], ◌∷◌, ℕ, ◌+◌, ◌≤◌, ◌<◌, eqb, ltb, leb, length, get_or, take, replicate, Result}
+use Rattle.std.specs.Prelude.{Bool, not, ◌||◌, List, [], ◌∷◌, ℕ, ◌+◌, ◌≤◌, ◌<◌, eqb, ltb, length, get_or, take, replicate, Result}
 use Rattle.project.specs.declared.answers.Check.TheVariants.{WrongTimes}
 use Rattle.project.specs.declared.answers.Refusal.{Refusal}
 use Rattle.project.specs.File.{File, task_count}
@@ -14,20 +14,13 @@ use Rattle.responses.specs.Responses.{largest_penalty, wrong, any}
 
 -- ---- the times of a list
 
-abbrev pub pick : {A : Type 0} → Bool → A → A → A
-pick true a b = a
-pick false a b = b
-
-abbrev pub few_of : ℕ → ℕ
-few_of n = pick (leb n 8) n 8
-
 unfoldable pub times_with : Times → ℕ → List Record → Times
 times_with x i [] = x
 times_with x i (r ∷ rs) = times_with (timed x i r) (i + 1) rs
 
 -- those of its first eight records, and how many records it has
 abbrev pub times_of : List Record → Times
-times_of xs = times_with (no_times (length xs)) 0 (take (few_of (length xs)) xs)
+times_of xs = times_with (no_times (length xs)) 0 (take 8 xs)
 
 -- ---- check 21 by the times
 

@@ -29,29 +29,20 @@ fn is_outside(x: u64) -> bool
 }
 
 // Whether a time of task i is out of its bounds, or its deadline over its period.
-fn is_wrong(times: Times, i: usize) -> bool
+fn is_wrong(times: &Times, i: usize) -> bool
     requires { i < 8 }
-    ensures { result ≡ wrong_at times i }
+    ensures { result ≡ wrong_at times.now i }
 {
-    let c = times.c[i];
-    let t = times.t[i];
-    let d = times.d[i];
-    if is_outside(c) {
-        return true;
-    }
-    if is_outside(t) {
-        return true;
-    }
-    if is_outside(d) {
-        return true;
-    }
-    t < d
+    is_outside(times.c[i])
+        || is_outside(times.t[i])
+        || is_outside(times.d[i])
+        || times.t[i] < times.d[i]
 }
 
 // Whether a time of the first `tasks` tasks is out of its bounds, or a deadline over its period.
-fn are_wrong(times: Times, tasks: usize) -> bool
+fn are_wrong(times: &Times, tasks: usize) -> bool
     requires { tasks ≤ 8 }
-    ensures { result ≡ any tasks (wrong_at times) }
+    ensures { result ≡ any tasks (wrong_at times.now) }
 {
     for i in 0..tasks {
         if is_wrong(times, i) {
@@ -62,22 +53,16 @@ fn are_wrong(times: Times, tasks: usize) -> bool
 }
 
 // Check 21.
-fn is_refused(times: Times, penalty: u64, tasks: usize) -> bool
+fn is_refused(times: &Times, penalty: u64, tasks: usize) -> bool
     requires { tasks ≤ 8 }
-    ensures { result ≡ times_test21 tasks times penalty }
+    ensures { result ≡ times_test21 tasks times.now penalty }
 {
-    if times.count != tasks {
-        return true;
-    }
-    if LARGEST_PENALTY < penalty {
-        return true;
-    }
-    are_wrong(times, tasks)
+    times.count != tasks || LARGEST_PENALTY < penalty || are_wrong(times, tasks)
 }
 
 // What is to be set in the list that the times are of, or the check that fails first. What the work area holds afterwards is free.
-pub fn planned(file: &[u8], area: &mut [u16], times: Times, penalty: u32) -> Result<Plan, Refusal>
-    ensures { (result ≡ plan_of 16 file.now area.old times penalty)
+pub fn planned(file: &[u8], area: &mut [u16], times: &Times, penalty: u32) -> Result<Plan, Refusal>
+    ensures { (result ≡ plan_of 16 file.now area.old times.now penalty)
         × (length area.new ≡ length area.old) }
 {
     let mut numbers = [0u16; 64];
@@ -87,7 +72,7 @@ pub fn planned(file: &[u8], area: &mut [u16], times: Times, penalty: u32) -> Res
         return Err(Check::WrongTimes.into());
     }
     Ok(Plan {
-        times,
+        times: *times,
         numbers,
         penalty,
     })
@@ -98,5 +83,5 @@ pub fn record_by(task: Record, i: usize, plan: &Plan) -> Record
     requires { Ready plan.now × (i < plan.now.times.count) }
     ensures { result ≡ with_response task (plan_response plan.now i) }
 {
-    answered(task, plan.times, &plan.numbers, plan.penalty, i)
+    answered(task, &plan.times, &plan.numbers, plan.penalty, i)
 }

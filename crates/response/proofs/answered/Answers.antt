@@ -1,12 +1,14 @@
 -- `answered` meets its contract. Assumes nothing.
-use mathlib.Core.Path.{ap, ◌∙◌}
-use Prim.Native.Nat.{ℕ}
-use Rattle.response.specs.Times.{with_response}
+use mathlib.Core.Path.{sym, ◌∙◌}
+use native.Mathlib.Omega.{arith}
+use Rattle.response.proofs.ResponseLaws.{is_met, with_r, with_none}
 use Rattle.response.proofs.answered.Goals as goal
 
-pub returns : goal.returns
-returns c =
-    let task = c.args.task in
-    let r = c.response_of-r.result in
-    ap (λ (late : ℕ). record { c = task.c; t = task.t; d = task.d; r = r; late = late }) c.late_mark.ensures
-    ∙ ap (λ (r : ℕ). with_response task r) c.response_of-r.ensures.0
+pub overflow_cast-r : goal.overflow_cast-r
+overflow_cast-r c = omega (arith, (is_met _ (sym c.response_of.ensures.0 ∙ c.in-Some.is)).0, c.response_of.ensures.1)
+
+pub returns-in-Some : goal.returns-in-Some
+returns-in-Some c = with_r c.args.task _ (sym c.response_of.ensures.0 ∙ c.in-Some.is)
+
+pub returns-in-None : goal.returns-in-None
+returns-in-None c = with_none c.args.task _ (sym c.response_of.ensures.0 ∙ c.in-None.is)

@@ -15,7 +15,7 @@ pub loop-k-preserved : goal.loop-k-preserved
 loop-k-preserved c =
     let at = c.loop-k in
     let args = c.args in
-    (refl, omega arith, sum_turn (λ (h : ℕ). table_pair args.numbers.now (args.j + 1 + h) args.j) at.k at.invariant.2 c.widened-sum.ensures.0, omega (arith, c.widened-sum.ensures.1))
+    (refl, omega arith, sum_turn (λ (h : ℕ). table_pair args.numbers.now (args.j + 1 + h) args.j) at.k at.invariant.2 c.from-sum.ensures, omega (arith, c.from-sum.ensures))
 
 pub returns : goal.returns
 unfolding g

@@ -16,16 +16,16 @@ is_wrong-requires c = omega (arith, c.requires)
 pub returns-then-is_wrong : goal.returns-then-is_wrong
 returns-then-is_wrong c =
     let args = c.args in
-    sym (any_has (wrong_at args.times) args.tasks c.loop-i.i (omega arith) (sym c.is_wrong.ensures ∙ c.if-is_wrong.true))
+    sym (any_has (wrong_at args.times.now) args.tasks c.loop-i.i (omega arith) (sym c.is_wrong.ensures ∙ c.if-is_wrong.true))
 
 pub loop-i-preserved : goal.loop-i-preserved
 loop-i-preserved c =
     let at = c.loop-i in
-    (omega arith, any_turn (wrong_at c.args.times) at.i at.invariant.1 (sym c.is_wrong.ensures ∙ c.if-is_wrong.false))
+    (omega arith, any_turn (wrong_at c.args.times.now) at.i at.invariant.1 (sym c.is_wrong.ensures ∙ c.if-is_wrong.false))
 
 pub returns : goal.returns
 returns c =
     let at = c.loop-i in
     let args = c.args in
     let e : at.i ≡ args.tasks = omega arith in
-    sym (ap (λ (i : ℕ). any i (wrong_at args.times)) (sym e) ∙ at.invariant.1)
+    sym (ap (λ (i : ℕ). any i (wrong_at args.times.now)) (sym e) ∙ at.invariant.1)

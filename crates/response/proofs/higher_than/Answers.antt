@@ -1,4 +1,4 @@
--- `costs_of` meets its contract. Assumes nothing.
+-- `higher_than` meets its contract. Assumes nothing.
 use mathlib.Core.Path.{refl, ap}
 use Prim.Native.Nat.{ℕ, ◌≤◌, ◌*◌, ◌+◌}
 use native.Mathlib.Nat.{mul-le-mul}
@@ -7,8 +7,8 @@ use Rattle.response.specs.Response.{g}
 use Rattle.response.specs.Times.{table_pair}
 use Rattle.response.proofs.ResponseLaws.{costs_turn}
 use native.Mathlib.Omega.{arith}
-use Rattle.response.proofs.costs_of.Goals as goal
-use Rattle.response.proofs.costs_of.Goals.{After-pairs_by}
+use Rattle.response.proofs.higher_than.Goals as goal
+use Rattle.response.proofs.higher_than.Goals.{After-pairs_by}
 
 pub loop-j-init : goal.loop-j-init
 loop-j-init c = (omega arith, refl, λ h l. absurd (omega arith))
@@ -18,7 +18,7 @@ term : (c : After-pairs_by) → c.args.penalty * c.pairs_by.result ≤ 1000 * 52
 term c = mul-le-mul c.requires.2 c.pairs_by.ensures.1
 
 -- the execution time
-short : (c : After-pairs_by) → get_or c.args.times.c c.loop-j.j 0 ≤ 1000000
+short : (c : After-pairs_by) → get_or c.args.times.now.c c.loop-j.j 0 ≤ 1000000
 short c = (c.requires.3 c.loop-j.j (omega arith)).most_c
 
 pub overflow_mul-costs : goal.overflow_mul-costs
@@ -33,12 +33,21 @@ loop-j-preserved c =
     let args = c.args in (
       omega arith,
       simp length-set at.invariant.1,
-      costs_turn (λ (h : ℕ). get_or args.times.c h 0 + args.penalty * g (table_pair args.numbers.now) args.i h) at.costs 1000000000 at.j
-          (get_or args.times.c at.j 0 + args.penalty * c.pairs_by.result) (omega arith) at.invariant.2
-          (ap (λ (x : ℕ). get_or args.times.c at.j 0 + args.penalty * x) c.pairs_by.ensures.0) (omega (arith, term c, short c)),
+      costs_turn (λ (h : ℕ). get_or args.times.now.c h 0 + args.penalty * g (table_pair args.numbers.now) args.i h) at.costs 1000000000 at.j
+          (get_or args.times.now.c at.j 0 + args.penalty * c.pairs_by.result) (omega arith) at.invariant.2
+          (ap (λ (x : ℕ). get_or args.times.now.c at.j 0 + args.penalty * x) c.pairs_by.ensures.0) (omega (arith, term c, short c)),
     )
 
 pub returns : goal.returns
 returns c =
-    let at = c.loop-j in
-    λ j l. at.invariant.2 j (omega arith)
+    let at = c.loop-j in (
+      record {
+        few = omega arith;
+        some = λ j l. (c.requires.3 j l).some_t;
+        short = λ j l. (c.requires.3 j l).most_t;
+        cheap = λ j l. (at.invariant.2 j (omega arith)).1;
+      },
+      refl,
+      refl,
+      λ j l. (at.invariant.2 j (omega arith)).0,
+    )
