@@ -1,7 +1,7 @@
 -- Costliest run for C. Definitions only.
 use Rattle.std.specs.Prelude.{◌≡◌, Bool, true, false, List, ℕ, length}
 use Rattle.project.specs.File.{File}
-use Rattle.project.specs.declared.answers.Writing.{Writing}
+use Rattle.project.specs.Writing.{Writing}
 use Rattle.rows.specs.Rows.{Area}
 use Rattle.sheet.specs.Sheet.{Sheet}
 use Rattle.costliest.specs.Costliest.{costliest_check, CostliestAnswer}

@@ -1,40 +1,19 @@
--- `crpd_response_times` meets its contract: the plan by the times of the list, set in the list, and its answer told. Assumes nothing.
-use mathlib.Core.Path.{◌≡◌, sym, ap, subst, ◌∙◌}
-use Prim.Native.Nat.{◌≤◌}
+-- `crpd_response_times` meets its contract: it answers what Response times answers, in numbers. Assumes nothing.
+-- The idea: the answer that is told is that of the call; behind the test the list has its places.
+use mathlib.Core.Path.{refl}
 use lib.ListN.{length}
-use Rattle.response.specs.declared.Times.{Times}
-use Rattle.response.specs.Times.{with_responses}
-use Rattle.responses.specs.declared.plan.Plan.{Plan}
-use Rattle.responses.specs.Plan.{times_of, plan_response, Ready}
-use Rattle.c_answers.specs.Filling.{filling_status, filling_left}
-use Rattle.crpd_c.specs.ResponseTimes.{named_plan}
-use Rattle.crpd_c.proofs.NamedPlans.{named_ready, named_list, named_status, named_task}
+use borrow.Author.Tests.{eq-eqb, ne_eqb}
 use Rattle.crpd_c.proofs.crpd_response_times.crpd_response_times.Goals as goal
-use Rattle.crpd_c.proofs.crpd_response_times.crpd_response_times.Goals.{After-planned_named-plan}
 
--- the plan by the times of the list
-planned_as : (c : After-planned_named-plan)
-    → c.planned_named-plan.result ≡ named_plan (length c.args.named.now) c.args.file.now c.args.area.now (times_of c.args.list.now) c.args.penalty
-planned_as c =
-    c.planned_named-plan.ensures.0
-    ∙ ap (λ (x : Times). named_plan (length c.args.named.now) c.args.file.now c.args.area.now x c.args.penalty) c.times_of.ensures
-
-pub set_responses-requires : goal.set_responses-requires
-set_responses-requires c =
-    let args = c.args in
-    subst (λ (h : Plan). Ready h × (h.count ≤ length args.list.now)) (sym (planned_as (goal.at.set_responses-requires c).After-planned_named-plan))
-    (named_ready args.file.now args.area.now args.list.now args.penalty args.named.now)
+pub returns-then-named-ne1 : goal.returns-then-named-ne1
+returns-then-named-ne1 c =
+    let e = ne_eqb (length c.args.named.now) 1 c.if-named-ne1.true in
+    (rw e, rw e, rw e, refl, λ _. refl)
 
 pub returns : goal.returns
 returns c =
-    let args = c.args in
-    let e = planned_as (goal.at.returns c).After-planned_named-plan in (
-      c.tell_plan.ensures.0 ∙ ap (λ (h : Plan). filling_status args.named.now h.answer) e
-          ∙ named_status args.file.now args.area.now args.list.now args.penalty args.named.now,
-      c.set_responses.ensures ∙ ap (λ (h : Plan). with_responses (plan_response h) 0 h.count args.list.now) e
-          ∙ named_list args.file.now args.area.now args.list.now args.penalty args.named.now,
-      c.tell_plan.ensures.1 ∙ ap (λ (h : Plan). filling_left args.named.now h.answer) e
-          ∙ named_task args.file.now args.area.now args.list.now args.penalty args.named.now,
-      c.planned_named-plan.ensures.1,
-      c.planned_named-plan.ensures.2,
-    )
+    let call = c.response_times.ensures in
+    let h = c.if-named-ne1.false in
+    let e = eq-eqb (length c.args.named.now) 1 h in
+    let told = rw call.0 at c.tell_filling.ensures in
+    (told.0, rw e call.1, told.1, call.2, λ other. absurd (other h))
