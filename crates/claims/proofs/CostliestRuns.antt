@@ -1,5 +1,8 @@
 -- Replay of the sheet that is written answers the pair number: `costliest-replayed`.
 -- The idea: the run fits a sheet, so that Replay accepts the run's sheet and answers its U, D and lost hits.
+use Rattle.std.specs.Prelude.{Ok, Err}
+use Rattle.project.specs.declared.answers.Check.TheVariants.{ListLength}
+use Rattle.project.specs.Checklist.{Checked}
 use mathlib.Core.Path.{◌≡◌, refl, sym, ap, ◌∙◌}
 use mathlib.Core.Bool.{true}
 use mathlib.Core.List.{List, ◌++◌}
@@ -7,12 +10,9 @@ use Prim.Native.Nat.{ℕ}
 use native.Mathlib.Omega.{arith}
 use lib.ListN.{length, take, drop}
 use lib.Seq.{take_at}
-use Rattle.project.specs.declared.answers.Check.{Check}
-use Rattle.project.specs.declared.answers.Check.TheVariants.{Passed}
-use Rattle.project.specs.declared.answers.Check.TheVariants.{Refused as Failed}
-use Rattle.project.specs.declared.answers.Writing.{Writing}
-use Rattle.project.specs.declared.answers.Writing.TheVariants.{Written, Refused}
 use Rattle.project.specs.Checklist.{no_task}
+use Rattle.project.specs.declared.answers.Refusal.{Refusal}
+use Rattle.project.specs.Writing.{Writing}
 use Rattle.project.specs.File.{task_count}
 use Rattle.project.specs.Reading.{file_checks, file_check, reading_of}
 use Rattle.project.specs.Bodies.{accepted}
@@ -27,11 +27,11 @@ use Rattle.claims.specs.Demand.{file_u, file_d, file_lost}
 use Rattle.claims.specs.CostliestRuns.{ReplaysNumber}
 
 length_of : Writing → ℕ
-length_of (Written l) = l
-length_of (Refused c a) = 0
+length_of (Ok l) = l
+length_of (Err r) = 0
 
 -- a run that is written
-written_replayed : (s : List ℕ) → accepted (reading_of s) ≡ true → (i j : ℕ) (old : List ℕ) (l : ℕ) (new : List ℕ) → WrittenRun s i j old (Written l) new → ReplaysNumber s i j l new
+written_replayed : (s : List ℕ) → accepted (reading_of s) ≡ true → (i j : ℕ) (old : List ℕ) (l : ℕ) (new : List ℕ) → WrittenRun s i j old (Ok l) new → ReplaysNumber s i j l new
 unfolding length_of
 written_replayed s ok i j old l new x =
     let long : l ≡ length (run_numbers (tasks_of s) x.run) = ap length_of x.answered in
@@ -46,17 +46,17 @@ written_replayed s ok i j old l new x =
 
 -- where the call answers a length
 pub costliest-replayed : (s : List ℕ) (i j : ℕ) (first second old : List ℕ) (l : ℕ) (new : List ℕ)
-    → CostliestAnswer (costliest_check 16 s i j first second old) s i j old (Written l) new → ReplaysNumber s i j l new
+    → CostliestAnswer (costliest_check 16 s i j first second old) s i j old (Ok l) new → ReplaysNumber s i j l new
 costliest-replayed s i j first second old l new h = go (costliest_check 16 s i j first second old) refl h
   where
-    checked : costliest_check 16 s i j first second old ≡ Passed → file_check s ≡ Passed
+    checked : costliest_check 16 s i j first second old ≡ Ok tt → file_check s ≡ Ok tt
     checked e =
-        let later = (unless-passed 1 no_task (test1 16 first second) _ e).1 in
+        let later = (unless-passed ListLength no_task (test1 16 first second) _ e).1 in
         (then_passed (file_check s) _ (sym (verdict_append (file_checks s) (asked_checks (task_count s) i j old ++ two_checks 16 s i j)) ∙ later)).0
 
-    unwritten : {c a : ℕ} → Written l ≡ Refused c a → ⊥
+    unwritten : {r : Refusal} → ◌≡◌ {A = Writing} (Ok l) (Err r) → ⊥
     unwritten e = let z : ◌≡◌ {A = ℕ} 0 1 = cc in absurd (omega arith)
 
-    go : (r : Check) → costliest_check 16 s i j first second old ≡ r → CostliestAnswer r s i j old (Written l) new → ReplaysNumber s i j l new
-    go Passed e x = written_replayed s (passing_accepted s (checked e)) i j old l new x
-    go (Failed c a) e x = absurd (unwritten x.0)
+    go : (r : Checked) → costliest_check 16 s i j first second old ≡ r → CostliestAnswer r s i j old (Ok l) new → ReplaysNumber s i j l new
+    go (Ok tt) e x = written_replayed s (passing_accepted s (checked e)) i j old l new x
+    go (Err r) e x = absurd (unwritten x.0)

@@ -1,5 +1,6 @@
 -- Demand 3 whole, over accepted files: `demand_3_whole`.
 -- The idea: an accepted file's tasks keep the rules; a table that is filled is the table of the definitions, and an accepted sheet is that of a disturbed run.
+use Rattle.claims.specs.Files.{accepted_as}
 use mathlib.Core.Path.{◌≡◌, ap}
 use mathlib.Core.Logic.{◌≢◌}
 use mathlib.Core.List.{List}
@@ -15,7 +16,6 @@ use Rattle.model.proofs.Bounds.{bounded_apart}
 use Rattle.project.specs.Reading.{reading_of}
 use Rattle.project.specs.Bodies.{accepted}
 use Rattle.project.specs.Tasks.{tasks_of, file_pair, file_cache}
-use Rattle.project.specs.declared.answers.Reading.TheVariants.{Accepted}
 use Rattle.project.proofs.TaskFaults.{Bytes}
 use Rattle.project.proofs.Accepted.{accepted-passed}
 use Rattle.project.proofs.FileRules.{file-rules, file-demand_3}
@@ -26,11 +26,11 @@ use Rattle.claims.proofs.Sheets.{of_the_run}
 use Rattle.claims.specs.Demand.{NoMasks, RunsApart, Demand3Whole}
 
 -- demand 3 of every list of bytes that Reader accepts
-pub demand_3_whole : (s : List ℕ) → Bytes s → (n t : ℕ) → reading_of s ≡ Accepted n t → Demand3Whole s
+pub demand_3_whole : (s : List ℕ) → Bytes s → (n t : ℕ) → reading_of s ≡ accepted_as n t → Demand3Whole s
 demand_3_whole s h n t e =
-    let (q, en, et) = accepted-passed s n t e in
+    let (q, en, et) = accepted-passed s _ e in
     record {
-      runs = file-demand_3 s h n t e;
+      runs = file-demand_3 s h _ e;
       numbers = λ i j. pair_is (file_cache s) (task (tasks_of s) i) (task (tasks_of s) j);
       entries = table_entries 16 s;
       answers = of_the_run s h;
@@ -39,7 +39,7 @@ demand_3_whole s h n t e =
     }
 
 -- a file of which no two tasks share a memory block
-pub runs_apart : (s : List ℕ) → Bytes s → (n t : ℕ) → reading_of s ≡ Accepted n t → Apart (tasks_of s) → RunsApart s
+pub runs_apart : (s : List ℕ) → Bytes s → (n t : ℕ) → reading_of s ≡ accepted_as n t → Apart (tasks_of s) → RunsApart s
 runs_apart s h n t e apart = record {
   runs = each;
   answers = λ sheet u d l q.
@@ -47,12 +47,12 @@ runs_apart s h n t e apart = record {
       let b = each x.run in
       (omega (arith, x.undisturbed, x.disturbed, b.lower), omega (arith, x.undisturbed, x.disturbed, x.lost, b.equal));
   reached = λ i j hi hj ne some.
-      let x = (file-demand_3 s h n t e).reached i j (rw (tasks_long s) hi) (rw (tasks_long s) hj) ne some in
+      let x = (file-demand_3 s h _ e).reached i j (rw (tasks_long s) hi) (rw (tasks_long s) hj) ne some in
       (x.run, x.task_i, x.once, omega (arith, x.equal, (each x.run).equal));
 }
   where
     each : (run : DisturbedRun (tasks_of s)) → BoundedApart (file_cache s) (tasks_of s) run
-    each run = bounded_apart (file_cache s) (tasks_of s) (file-rules s h n t e) run apart
+    each run = bounded_apart (file_cache s) (tasks_of s) (file-rules s h _ e) run apart
 
 -- no number of a file is below the one over the ends of blocks alone, as it was before Point 6
 pub numbers-at-ends : (s : List ℕ) (i j x : ℕ) → NumberAtEnds (file_cache s) (task (tasks_of s) i) (task (tasks_of s) j) x → x ≤ file_pair s i j

@@ -1,5 +1,7 @@
 -- Point 7 whole, over accepted files: `nested_whole`; the worked example, `three-answers`, and the false neighbours of the bound, over files.
 -- The idea: an accepted file's tasks keep the rules of the bound; a nested sheet is the numbers of one nested run only.
+use Rattle.claims.specs.Files.{accepted_as}
+use Rattle.std.specs.Prelude.{Ok}
 use mathlib.Core.Path.{◌≡◌, refl, sym, ap, ◌∙◌}
 use mathlib.Core.List.{List, [], ◌∷◌, ◌++◌, append-nil, map}
 use Prim.Native.Nat.{ℕ, ◌+◌, ◌≤◌}
@@ -15,7 +17,6 @@ use Rattle.model.proofs.NestedNeighbours.{directly_around, nested_around, around
 use Rattle.body.specs.Layout.{body_bytes}
 use Rattle.body.specs.Decode.{decode, blocks_from}
 use Rattle.project.specs.File.{File, file_of}
-use Rattle.project.specs.declared.answers.Reading.TheVariants.{Accepted}
 use Rattle.project.specs.Reading.{reading_of}
 use Rattle.project.specs.Bodies.{accepted}
 use Rattle.project.specs.Tasks.{tasks_of, file_cache, file_pair}
@@ -24,7 +25,6 @@ use Rattle.project.proofs.FileRules.{file-rules}
 use Rattle.nested_sheet.specs.NestedSheet.{NestedSheetRun, how_many, with_head, list_numbers, nested_numbers, nested_sheet_run, nested_sheet}
 use Rattle.nested_sheet.specs.NestedRuns.{list_of}
 use Rattle.nested_sheet.proofs.Numbers.{head_apart}
-use Rattle.nested_replay.specs.declared.NestedReplaying.TheVariants.{Counted}
 use Rattle.nested_replay.specs.NestedReplay.{nested_replaying_of}
 use Rattle.nested_replay.proofs.NestedReplays.{replayed, nested_replayed, nested_two_bytes}
 use Rattle.claims.specs.Nested.{file_total, NestedWhole}
@@ -55,7 +55,7 @@ run_same r q e =
     (a, b, (list_same r.runs q.runs [] [] n (append-nil (list_numbers r.runs) ∙ l ∙ sym (append-nil (list_numbers q.runs)))).0)
 
 -- what Nested replay answers to the sheet of a run is the total of that run, whichever run it is
-of_the_run : (s : File) → Bytes s → (run : NestedRun (tasks_of s)) (x : ℕ) → nested_replaying_of s (nested_sheet (tasks_of s) run) ≡ Counted x → x ≡ file_total s run
+of_the_run : (s : File) → Bytes s → (run : NestedRun (tasks_of s)) (x : ℕ) → nested_replaying_of s (nested_sheet (tasks_of s) run) ≡ Ok x → x ≡ file_total s run
 of_the_run s h run x e =
     let y = replayed s h (nested_sheet (tasks_of s) run) x e in
     let (a, b, c) = run_same (nested_sheet_run (tasks_of s) run) (nested_sheet_run (tasks_of s) y.run) y.sheet_of_lem in
@@ -66,9 +66,9 @@ of_the_run s h run x e =
     totals p q path other xs ys a b c = rw (a, b, c)
 
 -- Point 7 of every list of bytes that Reader accepts
-pub nested_whole : (s : File) → Bytes s → (n t : ℕ) → reading_of s ≡ Accepted n t → NestedWhole s
+pub nested_whole : (s : File) → Bytes s → (n t : ℕ) → reading_of s ≡ accepted_as n t → NestedWhole s
 nested_whole s h n t e =
-    let bounds = nested_bounded (file_cache s) (tasks_of s) (file-rules s h n t e) in
+    let bounds = nested_bounded (file_cache s) (tasks_of s) (file-rules s h _ e) in
     record {
       bounds = bounds;
       described = replayed s h;
@@ -89,20 +89,20 @@ abbrev filled_file : File
 filled_file = file_of 1 (map body_bytes tasks_filled)
 
 -- what Reader and Nested replay answer for them
-pub nested_answers : (reading_of three_file ≡ Accepted 2 3) × (reading_of around_file ≡ Accepted 1 3) × (reading_of filled_file ≡ Accepted 1 2)
-    × (nested_replaying_of three_file (0 ∷ 2 ∷ 0 ∷ 0 ∷ 1 ∷ 0 ∷ 2 ∷ 1 ∷ 1 ∷ 0 ∷ 1 ∷ 0 ∷ 1 ∷ 2 ∷ 1 ∷ 0 ∷ 0 ∷ []) ≡ Counted 5)
-    × (nested_replaying_of around_file (0 ∷ 1 ∷ 0 ∷ 1 ∷ 0 ∷ 1 ∷ 2 ∷ 1 ∷ 0 ∷ 1 ∷ 0 ∷ 0 ∷ 1 ∷ 1 ∷ 0 ∷ 0 ∷ []) ≡ Counted 3)
+pub nested_answers : (reading_of three_file ≡ accepted_as 2 3) × (reading_of around_file ≡ accepted_as 1 3) × (reading_of filled_file ≡ accepted_as 1 2)
+    × (nested_replaying_of three_file (0 ∷ 2 ∷ 0 ∷ 0 ∷ 1 ∷ 0 ∷ 2 ∷ 1 ∷ 1 ∷ 0 ∷ 1 ∷ 0 ∷ 1 ∷ 2 ∷ 1 ∷ 0 ∷ 0 ∷ []) ≡ Ok 5)
+    × (nested_replaying_of around_file (0 ∷ 1 ∷ 0 ∷ 1 ∷ 0 ∷ 1 ∷ 2 ∷ 1 ∷ 0 ∷ 1 ∷ 0 ∷ 0 ∷ 1 ∷ 1 ∷ 0 ∷ 0 ∷ []) ≡ Ok 3)
 unfolding nothing numbers decode blocks_from list_of
 nested_answers = (refl, refl, refl, refl, refl)
 
 -- "only the run directly around counts"
-pub not_directly_around : ((s : File) (n t : ℕ) → reading_of s ≡ Accepted n t → (run : NestedRun (tasks_of s))
+pub not_directly_around : ((s : File) (n t : ℕ) → reading_of s ≡ accepted_as n t → (run : NestedRun (tasks_of s))
     → file_total s run ≤ alone (file_cache s) (tasks_of s) run.p run.path + directly_around (file_cache s) (tasks_of s) run.p run.runs) → ⊥
 unfolding nothing numbers decode blocks_from
 not_directly_around h = omega (arith, around_counts.0, around_counts.1, h around_file 1 3 nested_answers.1 nested_around)
 
 -- "each run's misses alone are those from the first contents"
-pub not-alone-from-first : ((s : File) (n t : ℕ) → reading_of s ≡ Accepted n t → (run : NestedRun (tasks_of s)) (i d by : ℕ) (path : List ℕ) → run.runs ≡ a_run i d by path no_run no_run
+pub not-alone-from-first : ((s : File) (n t : ℕ) → reading_of s ≡ accepted_as n t → (run : NestedRun (tasks_of s)) (i d by : ℕ) (path : List ℕ) → run.runs ≡ a_run i d by path no_run no_run
     → (row : Row) → length row ≡ (file_cache s).width
     → total (file_cache s) row run ≤ alone_from (file_cache s) (tasks_of s) row run.p run.path + (alone_from (file_cache s) (tasks_of s) row by path + file_pair s run.p by)) → ⊥
 unfolding nothing numbers decode blocks_from

@@ -20,7 +20,8 @@ use Rattle.project.proofs.TaskFaults.{Bytes}
 use Rattle.project.proofs.Verdicts.{file_agreeing}
 use Rattle.reader.proofs.TaskBodies.{reading, passing_accepted}
 use Rattle.file_pairs.specs.FilePairs.{entry_of, rows_from, table_of}
-use Rattle.table.specs.Table.{table_check, pick_table}
+use Rattle.project.specs.Checklist.{left_by}
+use Rattle.table.specs.Table.{table_check}
 use Rattle.claims.specs.OldTables.{old_entry, old_table, OldTables}
 
 -- tables of equal entries
@@ -49,5 +50,5 @@ module _ (s : List ℕ) (apart : Apart (tasks_of s)) where
 pub old_tables : (s : List ℕ) → Bytes s → AllPass (file_checks s) → Apart (tasks_of s) → OldTables s
 old_tables s h all apart = record {
   accepted = reading s (passing_accepted s (passed_computed (file_checks s) (file_agreeing s h) all));
-  tables = λ area table. ap (pick_table (table_check 16 s area table) table) (table_same s apart);
+  tables = λ area table. ap (λ (x : List ℕ). left_by (table_check 16 s area table) x table) (table_same s apart);
 }

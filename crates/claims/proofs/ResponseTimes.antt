@@ -1,6 +1,7 @@
 -- Point 8 over accepted files: what g charges is enough for nested runs, `g_charges`; statements next to Point 8 that are false, each with the file that
 -- refutes it: "R is the greatest number that meets the equation", "g of the task alone is enough", of R and of nested runs.
 -- The idea: the tasks around a run have rising numbers from the inside, so that g has each of their pair numbers.
+use Rattle.claims.specs.Files.{accepted_as}
 use mathlib.Core.Path.{◌≡◌, refl, sym, ap₂}
 use mathlib.Core.Logic.{inr}
 use mathlib.Core.Bool.{Bool, true, false, cond, false≢true}
@@ -23,7 +24,6 @@ use Rattle.model.proofs.NestedBound.{nested_bounded}
 use Rattle.body.specs.Layout.{body_bytes}
 use Rattle.body.specs.Decode.{decode, blocks_from}
 use Rattle.project.specs.File.{File, file_of}
-use Rattle.project.specs.declared.answers.Reading.TheVariants.{Accepted}
 use Rattle.project.specs.Reading.{reading_of}
 use Rattle.project.specs.Tasks.{tasks_of, file_cache, file_pair, PairNumbers}
 use Rattle.project.proofs.TaskFaults.{Bytes}
@@ -57,12 +57,12 @@ module _ (s : File) (pair : ℕ → ℕ → ℕ) (over : PairNumbers s pair) whe
       )
 
 -- for every nested run whose preempting runs come from higher tasks, each enclosed by lower ones, with g over the pair numbers of paths
-pub g_charges : (s : File) → Bytes s → (n t : ℕ) → reading_of s ≡ Accepted n t → (pair : ℕ → ℕ → ℕ) → PairNumbers s pair
+pub g_charges : (s : File) → Bytes s → (n t : ℕ) → reading_of s ≡ accepted_as n t → (pair : ℕ → ℕ → ℕ) → PairNumbers s pair
     → (run : NestedRun (tasks_of s)) → FromHigher run.p run.runs → Charged s run (g_of s run pair)
 g_charges s h n t e pair over run higher row long =
     omega (
       arith,
-      nested_bounded (file_cache s) (tasks_of s) (file-rules s h n t e) run row long,
+      nested_bounded (file_cache s) (tasks_of s) (file-rules s h _ e) run row long,
       bound_charged s pair over run.p run.runs run.p [] (le_refl run.p) tt higher,
     )
 
@@ -96,12 +96,12 @@ times c t d = record { c = c; t = t; d = d; r = 0; late = 0 }
 abbrev two_times : List Record
 two_times = times 1 2 2 ∷ times 1 10 10 ∷ []
 
-empty_answers : (reading_of empty_file ≡ Accepted 1 2) × ((record_of (responded empty_file two_times 0) 1).r ≡ 2) × (3 ≡ record_side two_times (file_pair empty_file) 0 1 3)
+empty_answers : (reading_of empty_file ≡ accepted_as 1 2) × ((record_of (responded empty_file two_times 0) 1).r ≡ 2) × (3 ≡ record_side two_times (file_pair empty_file) 0 1 3)
 unfolding nothing numbers decode blocks_from with_responses first_from right_side ceil g
 empty_answers = (refl, refl, refl)
 
 -- each positive number up to the deadline that meets the equation is at most R
-pub not_greatest : ((s : File) → Bytes s → (n t : ℕ) → reading_of s ≡ Accepted n t → (xs : List Record) (penalty : ℕ) → (Fault21 t xs penalty → ⊥) → (ys : List Record)
+pub not_greatest : ((s : File) → Bytes s → (n t : ℕ) → reading_of s ≡ accepted_as n t → (xs : List Record) (penalty : ℕ) → (Fault21 t xs penalty → ⊥) → (ys : List Record)
     → Responded s xs penalty ys → (pair : ℕ → ℕ → ℕ) → PairNumbers s pair → (i : ℕ) → i < length xs
     → (r : ℕ) → 0 < r → r ≤ (record_of xs i).d → r ≡ record_side xs pair penalty i r → r ≤ (record_of ys i).r) → ⊥
 unfolding nothing numbers decode blocks_from
@@ -126,11 +126,11 @@ three_times = times 1 20 20 ∷ times 2 40 40 ∷ times 3 100 100 ∷ []
 abbrev alone_side : List Record → (ℕ → ℕ → ℕ) → ℕ → ℕ → ℕ → ℕ
 alone_side xs pair penalty i r = (record_of xs i).c + sum i (λ (j : ℕ). ceil r (record_of xs j).t * ((record_of xs j).c + penalty * pair i j))
 
-loops_answers : (reading_of loops_file ≡ Accepted 2 3) × ((record_of (responded loops_file three_times 2) 2).r ≡ 14) × (answer (alone_side three_times (file_pair loops_file) 2 2) 100 ≡ 10)
+loops_answers : (reading_of loops_file ≡ accepted_as 2 3) × ((record_of (responded loops_file three_times 2) 2).r ≡ 14) × (answer (alone_side three_times (file_pair loops_file) 2 2) 100 ≡ 10)
 unfolding nothing numbers decode blocks_from with_responses first_from right_side ceil g
 loops_answers = (refl, refl, refl)
 
-pub not-alone-enough : ((s : File) → Bytes s → (n t : ℕ) → reading_of s ≡ Accepted n t → (xs : List Record) (penalty : ℕ) → (Fault21 t xs penalty → ⊥) → (ys : List Record)
+pub not-alone-enough : ((s : File) → Bytes s → (n t : ℕ) → reading_of s ≡ accepted_as n t → (xs : List Record) (penalty : ℕ) → (Fault21 t xs penalty → ⊥) → (ys : List Record)
     → Responded s xs penalty ys → (pair : ℕ → ℕ → ℕ) → PairNumbers s pair → (i : ℕ) → i < length xs
     → Answer (alone_side xs pair penalty i) (record_of xs i).d (record_of ys i).r) → ⊥
 unfolding nothing numbers decode blocks_from
@@ -189,13 +189,13 @@ nested_inside = record {
   );
 }
 
-inside_counts : (reading_of inside_file ≡ Accepted 1 3) × (total (file_cache inside_file) (empty_row (file_cache inside_file)) nested_inside ≡ 3)
+inside_counts : (reading_of inside_file ≡ accepted_as 1 3) × (total (file_cache inside_file) (empty_row (file_cache inside_file)) nested_inside ≡ 3)
     × (alone (file_cache inside_file) (tasks_of inside_file) 2 (0 ∷ []) + runs_charged (file_cache inside_file) (tasks_of inside_file) (λ (j : ℕ). file_pair inside_file 2 j) nested_inside.runs ≡ 2)
 unfolding nothing numbers decode blocks_from
 inside_counts = (refl, refl, refl)
 
 -- of nested runs, with every hypothesis of `g_charges`
-pub not-alone_charges : ((s : File) → Bytes s → (n t : ℕ) → reading_of s ≡ Accepted n t → (pair : ℕ → ℕ → ℕ) → PairNumbers s pair
+pub not-alone_charges : ((s : File) → Bytes s → (n t : ℕ) → reading_of s ≡ accepted_as n t → (pair : ℕ → ℕ → ℕ) → PairNumbers s pair
     → (run : NestedRun (tasks_of s)) → FromHigher run.p run.runs → Charged s run (λ (j : ℕ). pair run.p j)) → ⊥
 unfolding nothing numbers decode blocks_from
 not-alone_charges h =

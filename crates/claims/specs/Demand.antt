@@ -1,4 +1,5 @@
 -- Demand 3 over files and calls, with document 02, Points 1, 5 and 6, as one claim about an accepted file. Definitions only.
+use Rattle.std.specs.Prelude.{Ok}
 use Rattle.std.specs.Prelude.{◌≡◌, ◌≢◌, ℕ, ◌+◌, ◌≤◌, ◌<◌, length}
 use Rattle.cache.specs.References.{All}
 use Rattle.model.specs.Tasks.{Unmasked, SomeUnmasked, task}
@@ -8,8 +9,7 @@ use Rattle.project.specs.File.{File, task_count}
 use Rattle.project.specs.Tasks.{tasks_of, file_pair, PairNumbers, file_cache}
 use Rattle.table.specs.Table.{TableEntries}
 use Rattle.sheet.specs.Sheet.{Sheet, Fits, run_numbers}
-use Rattle.replay.specs.declared.Replaying.TheVariants.{Counted}
-use Rattle.replay.specs.Replay.{replaying_of}
+use Rattle.replay.specs.Replay.{counted, replaying_of}
 use Rattle.replay.specs.ReplayVerdict.{Replayed}
 
 -- the sheet of a run, and the run's U, D and lost hits in the file's cache
@@ -28,18 +28,18 @@ file_lost s run = lost_hits (file_cache s) run
 -- "Where replay accepts a sheet of the run, U and D are its answers.": of the run that is given; Point 5: "Replay adds a third number"
 abbrev pub ReplayAnswers : File → Type 0
 ReplayAnswers s =
-    (run : DisturbedRun (tasks_of s)) (u d l : ℕ) → replaying_of s (sheet_of s run) ≡ Counted u d l
+    (run : DisturbedRun (tasks_of s)) (u d l : ℕ) → replaying_of s (sheet_of s run) ≡ Ok (counted u d l)
     → (u ≡ file_u s run) × (d ≡ file_d s run) × (l ≡ file_lost s run)
 
 -- every sheet that replay accepts is that of a disturbed run
 abbrev pub SheetsDescribe : File → Type 0
-SheetsDescribe s = (sheet : Sheet) (u d l : ℕ) → replaying_of s sheet ≡ Counted u d l → Replayed s sheet u d l
+SheetsDescribe s = (sheet : Sheet) (u d l : ℕ) → replaying_of s sheet ≡ Ok (counted u d l) → Replayed s sheet u d l
 
 -- replay accepts the sheet of every disturbed run that a sheet can hold; the sheet is one of two-byte numbers
 abbrev pub RunsReplayed : File → Type 0
 RunsReplayed s =
     (run : DisturbedRun (tasks_of s)) → Fits (tasks_of s) run
-    → (replaying_of s (sheet_of s run) ≡ Counted (file_u s run) (file_d s run) (file_lost s run)) × All (λ (x : ℕ). x < 65536) (sheet_of s run)
+    → (replaying_of s (sheet_of s run) ≡ Ok (counted (file_u s run) (file_d s run) (file_lost s run))) × All (λ (x : ℕ). x < 65536) (sheet_of s run)
 
 -- no block of the file is masked
 abbrev pub NoMasks : File → Type 0
@@ -53,7 +53,7 @@ ReachedApart s i j = (run : DisturbedRun (tasks_of s)) × (run.p ≡ i) × OnceB
 -- U and the lost hits; and for every two different tasks, the first with an unmasked block, D - U reaches the number
 pub record RunsApart (s : File) : Type 0 where
   pub runs : (run : DisturbedRun (tasks_of s)) → BoundedApart (file_cache s) (tasks_of s) run
-  pub answers : (sheet : Sheet) (u d l : ℕ) → replaying_of s sheet ≡ Counted u d l → (u ≤ d) × (d ≡ u + l)
+  pub answers : (sheet : Sheet) (u d l : ℕ) → replaying_of s sheet ≡ Ok (counted u d l) → (u ≤ d) × (d ≡ u + l)
   pub reached : (i j : ℕ) → i < task_count s → j < task_count s → j ≢ i → SomeUnmasked (task (tasks_of s) i) → ReachedApart s i j
 
 -- demand 3 whole, over an accepted file: for every disturbed run the lost hits are at most the sum of the pair numbers and D at most U + that sum, and

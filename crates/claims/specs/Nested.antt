@@ -1,4 +1,5 @@
 -- Document 02, Point 7, over files and calls, as one claim about an accepted file. Definitions only.
+use Rattle.std.specs.Prelude.{Ok}
 use Rattle.std.specs.Prelude.{◌≡◌, ℕ, ◌≤◌, ◌<◌}
 use Rattle.cache.specs.References.{All}
 use Rattle.cache.specs.Cache.{empty_row}
@@ -7,7 +8,6 @@ use Rattle.project.specs.File.{File}
 use Rattle.project.specs.Tasks.{tasks_of, file_cache}
 use Rattle.sheet.specs.Sheet.{Sheet}
 use Rattle.nested_sheet.specs.NestedSheet.{NestedFits, nested_sheet}
-use Rattle.nested_replay.specs.declared.NestedReplaying.TheVariants.{Counted}
 use Rattle.nested_replay.specs.NestedReplay.{nested_replaying_of}
 use Rattle.nested_replay.specs.NestedVerdict.{NestedReplayed}
 
@@ -20,8 +20,8 @@ file_total s run = total (file_cache s) (empty_row (file_cache s)) run
 -- can hold has its answer, by a sheet of two-byte numbers
 pub record NestedWhole (s : File) : Type 0 where
   pub bounds : (run : NestedRun (tasks_of s)) → NestedBounded (file_cache s) run
-  pub described : (sheet : Sheet) (x : ℕ) → nested_replaying_of s sheet ≡ Counted x → NestedReplayed s sheet x
-  pub answers : (run : NestedRun (tasks_of s)) (x : ℕ) → nested_replaying_of s (nested_sheet (tasks_of s) run) ≡ Counted x → x ≡ file_total s run
-  pub bounded : (run : NestedRun (tasks_of s)) (x : ℕ) → nested_replaying_of s (nested_sheet (tasks_of s) run) ≡ Counted x → x ≤ nested_bound (file_cache s) run
+  pub described : (sheet : Sheet) (x : ℕ) → nested_replaying_of s sheet ≡ Ok x → NestedReplayed s sheet x
+  pub answers : (run : NestedRun (tasks_of s)) (x : ℕ) → nested_replaying_of s (nested_sheet (tasks_of s) run) ≡ Ok x → x ≡ file_total s run
+  pub bounded : (run : NestedRun (tasks_of s)) (x : ℕ) → nested_replaying_of s (nested_sheet (tasks_of s) run) ≡ Ok x → x ≤ nested_bound (file_cache s) run
   pub sheets : (run : NestedRun (tasks_of s)) → NestedFits (tasks_of s) run
-      → (nested_replaying_of s (nested_sheet (tasks_of s) run) ≡ Counted (file_total s run)) × All (λ (x : ℕ). x < 65536) (nested_sheet (tasks_of s) run)
+      → (nested_replaying_of s (nested_sheet (tasks_of s) run) ≡ Ok (file_total s run)) × All (λ (x : ℕ). x < 65536) (nested_sheet (tasks_of s) run)
