@@ -36,6 +36,7 @@ pub fn prepare(
         × (last.new ≡ last_rows (shaped w shape) (task_of (decode body.now))) }
 {
     let starts = walk.starts;
+    // By index: the number of a block is that of its row in both lists.
     for b in 0..walk.blocks {
         let at = starts[b];
         let rows = BlockReferences::gather(references(body, at), shape);
