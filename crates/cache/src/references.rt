@@ -63,6 +63,7 @@ impl BlockReferences {
         let none = BlockReferences::none();
         let mut first = none.first;
         let mut last = none.last;
+        // By index: `number_at` reads two bytes.
         for i in 0..references.len() / 2 {
             let m = MemoryBlock::new(number_at(references, 2 * i));
             BlockReferences::with_reference(&mut first.cells, &mut last.cells, m, shape);

@@ -32,7 +32,8 @@ pub fn clear(counts: &mut [usize])
     counts.fill(0);
 }
 
-// The row is appended to the rows of block s; true where the block is full. What stands after the rows of a block is left open.
+// The row is appended to the rows of block s; true where the block is full. A bool, as in `hand_row`: the crate
+// trails calls both. What stands after the rows of a block is left open.
 pub fn append_to(s: usize, row: &[u16], rows: &mut [u16], counts: &mut [usize]) -> bool
     requires { (s < 24) × Memory (length row.now) rows.old counts.old }
     ensures { AppendedTo (length row.now) s row.now rows.old counts.old rows.new counts.new result }

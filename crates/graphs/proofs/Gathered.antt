@@ -243,8 +243,10 @@ module _ (k : Cache) (t : Task) (bounds : InBounds t) {blocks : ℕ} {sets : Lis
       lived = λ q. (h.live e).gathered q (living k t) live_listing;
     }
 
+  pub area_told : {area reached lived : List ℕ} {full : Bool} → BothGathered (reach_graph k t) (live_graph k t) area reached lived full → AreaRows k t area reached lived full
+  area_told h = record { long = h.long; rows = task-rows h h.first refl }
+
   pub area_rows : {first last area reached lived : List ℕ} {full : Bool} → first ≡ first_rows k t → last ≡ last_rows k t
       → BothGathered (reach_of k.width blocks sets last) (live_of k.width blocks sets first) area reached lived full → AreaRows k t area reached lived full
   area_rows {area = area} {reached = reached} {lived = lived} {full = full} ef el h =
-      let there = subst (λ (g : Graph × Graph). BothGathered g.0 g.1 area reached lived full) (λ i. (reach_same el i, live_same ef i)) h in
-      record { long = h.long; rows = task-rows there h.first refl }
+      area_told (subst (λ (g : Graph × Graph). BothGathered g.0 g.1 area reached lived full) (λ i. (reach_same el i, live_same ef i)) h)

@@ -3,3 +3,4 @@ pub mod Prepared
 pub mod Turning
 pub mod Gathered
 pub mod TooMany
+pub mod Halves

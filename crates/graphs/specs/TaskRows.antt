@@ -34,12 +34,23 @@ pub record AreaRows (k : Cache) (t : Task) (area reached lived : List ℕ) (full
   pub long : length area ≡ area_length k.width
   pub rows : TaskRows k t (take (kind_length k.width) area) reached (take (kind_length k.width) (drop (kind_length k.width) area)) lived full
 
--- what gathering along two graphs leaves in a work area, one part after the other; where a block of the first graph is full, the second is
--- not asked for
-pub record BothGathered (r l : Graph) (area reached lived : List ℕ) (full : Bool) : Type 0 where
+-- what gathering along two graphs leaves in a work area, one part after the other, where `In` says what gathering along one leaves; where a block of the
+-- first graph is full, the second is not asked for
+pub record Both (In : Graph → List ℕ → List ℕ → Bool → Type 0) (r l : Graph) (area reached lived : List ℕ) (full : Bool) : Type 0 where
   pub long : length area ≡ area_length r.width
   pub many : length lived ≡ 24
   pub first : Bool
-  pub reaching : GatheredAs r (take (kind_length r.width) area) reached first
+  pub reaching : In r (take (kind_length r.width) area) reached first
   pub stopped : first ≡ true → full ≡ true
-  pub live : first ≡ false → GatheredAs l (take (kind_length r.width) (drop (kind_length r.width) area)) lived full
+  pub live : first ≡ false → In l (take (kind_length r.width) (drop (kind_length r.width) area)) lived full
+
+-- the same where all rows are gathered
+abbrev pub BothGathered : Graph → Graph → List ℕ → List ℕ → List ℕ → Bool → Type 0
+BothGathered = Both GatheredAs
+
+-- `In` tells how long the rows and their counts are
+abbrev pub Sizes : (Graph → List ℕ → List ℕ → Bool → Type 0) → Type 0
+Sizes In = (g : Graph) (rows counts : List ℕ) (full : Bool) → In g rows counts full → (length rows ≡ kind_length g.width) × (length counts ≡ 24)
+
+pub all_sizes : Sizes GatheredAs
+all_sizes g rows counts full h = (h.long, h.many)

@@ -32,7 +32,7 @@ pub fn prepare(
     ensures { (first.new ≡ first_rows (shaped w shape) (task_of (decode walk.now.body.now)))
         × (last.new ≡ last_rows (shaped w shape) (task_of (decode walk.now.body.now))) }
 {
-    // By number: the rows of a block are written at its number.
+    // By index: the number of a block is that of its row in both lists.
     for b in 0..walk.blocks {
         let rows = BlockReferences::gather(references(walk.body, walk.starts[b]), shape);
         keep_row(rows.first.cells(), w, b, first);

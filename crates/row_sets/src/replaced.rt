@@ -59,6 +59,7 @@ pub fn join_rows(ends: &[u16], count: usize, w: usize, one: &mut [u16]) -> u32
     requires { (count ≤ 32) × Width w × (length ends.now ≡ 32 * w) × OneOfThem w [] one.old }
     ensures { Joined w (rows_of w count ends.now) one.new result }
 {
+    // By index: w may be 0, and there are no chunks of no number.
     for k in 0..count {
         let at = w * k;
         overlay_onto(&ends[at..at + w], one);

@@ -54,6 +54,7 @@ pub fn overlay_row(row: &[u16], over: &[u16], out: &mut [u16])
     requires { (length row.now % 16 ≡ 0) × (length over.now ≡ length row.now) × (length out.old ≡ length row.now) }
     ensures { out.new ≡ overlay row.now over.now }
 {
+    // By index: three rows are at the same chunk.
     for h in 0..row.len() / 16 {
         let at = 16 * h;
         let chunk = overlay_chunk(chunk_at(row, at), &over[at..at + 16]);
@@ -74,6 +75,7 @@ fn holds<const N: usize>(part: &[u16], count: usize, row: [u16; N]) -> bool
     requires { (count ≤ 32) × (N ≤ 32) × (length part.now ≡ 32 * N) }
     ensures { result ≡ mem same_list row.entry (rows_of N count part.now) }
 {
+    // By index: a row of N numbers, which may be 0, is read as an array.
     for k in 0..count {
         if row == chunk_at(part, N * k) {
             return true;

@@ -72,6 +72,7 @@ pub fn sort_rows(part: &mut [u16], count: usize, w: usize)
     ensures { part.new ≡ block_part w (sorted (rows_of w count part.old)) }
 {
     let end = w * count;
+    // By index: the part that is in order grows from the back.
     for others in 0..count {
         let at = w * (count - 1 - others);
         insert_first(&mut part[at..end], others, w);

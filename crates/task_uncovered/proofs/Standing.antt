@@ -17,14 +17,13 @@ use Rattle.model.specs.States.{Reaches, Lives}
 use Rattle.model.specs.Computed.{same_list, sorted, reaching, living}
 use Rattle.model.proofs.Sorted.{sorted_has, sorted_only, reaching-rows, living-rows}
 use Rattle.body.specs.Layout.{InBounds}
-use Rattle.body.specs.Jumps.{jump_sets}
 use Rattle.body.proofs.Decoded.{blocks-real}
 use Rattle.body.proofs.JumpLaws.{jumps-inside}
 use Rattle.rows.specs.Rows.{Width, kind_length}
 use Rattle.gather.specs.Graph.{Graph, Listed, too_many}
 use Rattle.gather.specs.Memory.{Memory, held_rows}
 use Rattle.gather.specs.Gathered.{GatheredAs}
-use Rattle.graphs.specs.Graphs.{first_rows, last_rows, reach_graph, live_graph, reach_of, live_of}
+use Rattle.graphs.specs.Graphs.{reach_graph, live_graph}
 use Rattle.graphs.proofs.Gathered.{held-sorted}
 use Rattle.graphs.proofs.Listed.{reach_listed, live_listed}
 use Rattle.covered.specs.Covered.{Stands}
@@ -32,17 +31,24 @@ use Rattle.covered.specs.Rounds.{reaching_exceeds, live_exceeds}
 use Rattle.covered.proofs.Pairs.{all_stand}
 use Rattle.covered.proofs.Check.{reaching_check, live_check, reaching-before, live-before}
 use Rattle.uncovered.specs.Taken.{enough}
-use Rattle.task_uncovered.specs.Standing.{Both, Kept, AreaStands}
-use Rattle.task_uncovered.proofs.Halves.{few_rows, both_same}
+use Rattle.graphs.specs.TaskRows.{Both}
+use lib.Dec.{ltb}
+use borrow.Author.Tests.{ltb-true, ltb-false}
+use Rattle.gather.proofs.Gathering.{many-before}
+use Rattle.task_uncovered.specs.Standing.{Kept, AreaStands, kept_sizes}
 use Rattle.task_uncovered.proofs.Listed.{reaching-rounds, live-rounds}
+
+-- where no block has too many rows, each has few
+pub few_rows : (all : ℕ → List (List ℕ)) → too_many all 24 ≡ false → (b : ℕ) → b < 24 → length (all b) ≤ 32
+few_rows all none b h = go (ltb 32 (length (all b))) refl
+  where
+    go : (t : Bool) → ltb 32 (length (all b)) ≡ t → length (all b) ≤ 32
+    go true q = absurd (true≢false (sym (many-before all b 24 h (ltb-true 32 (length (all b)) q)) ∙ none))
+    go false q = ltb-false 32 (length (all b)) q
 
 not_true : (b : Bool) → (b ≡ true → ⊥) → b ≡ false
 not_true true h = absurd (h refl)
 not_true false h = refl
-
-pub kept_sizes : (g : Graph) (rows counts : List ℕ) (full : Bool) → Kept g rows counts full → (length rows ≡ kind_length g.width) × (length counts ≡ 24)
-kept_sizes g rows counts full (inl (e, h)) = (h.long, h.many)
-kept_sizes g rows counts full (inr h) = (h.memory.long, h.memory.many)
 
 -- ---- one kind of states
 
@@ -150,7 +156,5 @@ module _ (k : Cache) (t : Task) (bounds : InBounds t) (width : Width k.width) wh
         }
 
   -- in the code's words
-  pub area_stands : {blocks : ℕ} {sets first last area reached lived : List ℕ} {full : Bool} → blocks ≡ length t → sets ≡ jump_sets t
-      → first ≡ first_rows k t → last ≡ last_rows k t
-      → Both Kept (reach_of k.width blocks sets last) (live_of k.width blocks sets first) area reached lived full → AreaStands k t area reached lived full
-  area_stands eb es ef el h = let there = both_same k t bounds eb es Kept ef el h in by_first there there.first refl
+  pub stands_told : {area reached lived : List ℕ} {full : Bool} → Both Kept (reach_graph k t) (live_graph k t) area reached lived full → AreaStands k t area reached lived full
+  stands_told h = by_first h h.first refl

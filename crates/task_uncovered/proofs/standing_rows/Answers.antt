@@ -1,58 +1,12 @@
 -- `standing_rows` meets its contract: rows are kept along the two graphs of the body's task. Assumes nothing.
-use Prim.Native.Nat.{◌*◌}
-use native.Mathlib.Omega.{arith}
-use lib.ListN.{replicate}
 use Rattle.cache.specs.Shape.{shaped}
 use Rattle.body.specs.Decode.{decode, task_of}
-use Rattle.rows.proofs.Parts.{lent_front, front_long, front_room}
-use Rattle.graphs.specs.Graphs.{first_rows, last_rows}
-use Rattle.graphs.proofs.Prepared.{last_full, first_full_lem}
-use Rattle.graphs.proofs.Gathered.{nothings, kept-bounds}
-use Rattle.task_uncovered.proofs.Standing.{area_stands}
+use Rattle.graphs.proofs.Gathered.{kept-bounds}
+use Rattle.task_uncovered.proofs.Standing.{stands_told}
 use Rattle.task_uncovered.proofs.standing_rows.Goals as goal
-
-pub graphs-found-requires : goal.graphs-found-requires
-graphs-found-requires c =
-    let start = c in
-    let none = nothings (24 * start.args.w) 768 (omega (arith, start.requires.2.narrow)) in
-    (start.requires.0, start.requires.1, start.requires.2, none, none)
-
-pub slice_bounds-keep_both-end : goal.slice_bounds-keep_both-end
-slice_bounds-keep_both-end c =
-    let start = c in
-    let few = (kept-bounds start.args.body.now start.requires.0).few in
-    omega (arith, front_room (24 * start.args.w) (replicate 768 65535) (first_rows (shaped start.args.w start.args.shape) (task_of (decode start.args.body.now))) c.graphs-found.ensures.2 (first_full_lem (shaped start.args.w start.args.shape) (task_of (decode start.args.body.now)) few))
-
-pub slice_bounds-keep_both-end-2 : goal.slice_bounds-keep_both-end-2
-slice_bounds-keep_both-end-2 c =
-    let start = c in
-    let few = (kept-bounds start.args.body.now start.requires.0).few in
-    omega (arith, front_room (24 * start.args.w) (replicate 768 65535) (last_rows (shaped start.args.w start.args.shape) (task_of (decode start.args.body.now))) c.graphs-found.ensures.3 (last_full (shaped start.args.w start.args.shape) (task_of (decode start.args.body.now)) few))
-
-pub keep_both-requires : goal.keep_both-requires
-keep_both-requires c =
-    let start = c in
-    let w = start.args.w in
-    let k = shaped w start.args.shape in
-    let t = task_of (decode start.args.body.now) in
-    let bounds = kept-bounds start.args.body.now start.requires.0 in
-    let found = c.graphs-found.ensures in (
-      start.requires.2,
-      omega (arith, bounds.some, found.0),
-      omega (arith, bounds.few, found.0),
-      front_long (24 * w) (replicate 768 65535) (first_rows k t) c.graphs-found.ensures.2 (first_full_lem k t bounds.few),
-      front_long (24 * w) (replicate 768 65535) (last_rows k t) c.graphs-found.ensures.3 (last_full k t bounds.few),
-      start.requires.3,
-      start.requires.4,
-      start.requires.5,
-    )
 
 pub returns : goal.returns
 returns c =
-    let start = c in
-    let w = start.args.w in
-    let k = shaped w start.args.shape in
-    let t = task_of (decode start.args.body.now) in
-    let bounds = kept-bounds start.args.body.now start.requires.0 in
-    let found = c.graphs-found.ensures in
-    rw c.is_err.ensures.value (area_stands k t bounds start.requires.2 found.0 found.1 (lent_front (24 * w) (replicate 768 65535) (first_rows k t) c.graphs-found.ensures.2 (first_full_lem k t bounds.few)) (lent_front (24 * w) (replicate 768 65535) (last_rows k t) c.graphs-found.ensures.3 (last_full k t bounds.few)) c.keep_both.ensures)
+    let args = c.args in
+    rw c.is_err.ensures.value
+    (stands_told (shaped args.w args.shape) (task_of (decode args.body.now)) (kept-bounds args.body.now c.requires.0) c.requires.2 c.task_kinds-kept.ensures)

@@ -2,31 +2,20 @@
 use mathlib.Core.Path.{◌≡◌, refl, sym, ap, subst, ◌∙◌}
 use mathlib.Core.Bool.{Bool, true, false, true≢false}
 use mathlib.Core.List.{List, ◌++◌}
-use Prim.Native.Nat.{ℕ, ◌+◌, ◌-◌, ◌≤◌, ◌<◌}
+use Prim.Native.Nat.{ℕ, ◌+◌, ◌-◌}
 use native.Mathlib.Nat.{sub-zero}
-use lib.Dec.{ltb}
 use lib.ListN.{length, take, drop}
 use lib.Seq.{take_at}
-use borrow.Author.Tests.{ltb-true, ltb-false}
 use borrow.Rule.Slice.PartMut.{put_mid}
 use Rattle.cache.specs.Cache.{Cache}
 use Rattle.model.specs.Tasks.{Task}
 use Rattle.body.specs.Layout.{InBounds}
 use Rattle.body.specs.Jumps.{jump_sets}
 use Rattle.rows.specs.Rows.{kind_length, area_length}
-use Rattle.gather.specs.Graph.{Graph, too_many}
-use Rattle.gather.proofs.Gathering.{many-before}
+use Rattle.gather.specs.Graph.{Graph}
 use Rattle.graphs.specs.Graphs.{first_rows, last_rows, reach_graph, live_graph, reach_of, live_of}
 use Rattle.graphs.proofs.Gathered.{half_long, whole_long, whole-first, whole_second, reach_same, live_same}
-use Rattle.task_uncovered.specs.Standing.{Both}
-
--- where no block has too many rows, each has few
-pub few_rows : (all : ℕ → List (List ℕ)) → too_many all 24 ≡ false → (b : ℕ) → b < 24 → length (all b) ≤ 32
-few_rows all none b h = go (ltb 32 (length (all b))) refl
-  where
-    go : (t : Bool) → ltb 32 (length (all b)) ≡ t → length (all b) ≤ 32
-    go true q = absurd (true≢false (sym (many-before all b 24 h (ltb-true 32 (length (all b)) q)) ∙ none))
-    go false q = ltb-false 32 (length (all b)) q
+use Rattle.graphs.specs.TaskRows.{Both, Sizes}
 
 -- the first part, once it is written
 half_first : (kind : ℕ) (area new : List ℕ) → length new ≡ kind → take kind (put_mid 0 (kind - 0) area new) ≡ new
@@ -34,7 +23,7 @@ half_first kind area new size = ap (λ (i : ℕ). take kind (new ++ drop i area)
 
 -- `In` says what is kept along one graph
 module _ (In : Graph → List ℕ → List ℕ → Bool → Type 0)
-    (sizes : (g : Graph) (rows counts : List ℕ) (full : Bool) → In g rows counts full → (length rows ≡ kind_length g.width) × (length counts ≡ 24)) (r l : Graph)
+    (sizes : Sizes In) (r l : Graph)
     (area new : List ℕ) (long : length area ≡ area_length r.width) {counts : List ℕ} {first : Bool} (h : In r new counts first) where
   abbrev n : ℕ
   n = kind_length r.width
