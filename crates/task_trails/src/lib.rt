@@ -74,7 +74,8 @@ fn live_trails(
 }
 
 // The states of a task in a work area: whether some block has more than 32 of a kind, how many rows of each kind a block has, and their trails, `to`
-// those of reaching states and `on` those of live ones.
+// those of reaching states and `on` those of live ones. No Option of the lists: check 11 asks for the answers of two tasks (`costliest::check_two`) before
+// the lists of either are used.
 #[derive(Clone, Copy)]
 pub struct TaskTrails {
     pub full: bool,
