@@ -22,19 +22,8 @@ use cache::blocks::CacheShape;
 use reader::task_body;
 use run_sheet::Preemption;
 use search::{Found, Point, search};
-use task_trails::task_trails;
+use task_trails::{TaskTrails, task_trails};
 use trails::write::Place;
-
-// The states of a task in a work area: whether some block has more than 32 of a kind, how many rows of each kind a block has, and their trails, `to`
-// those of reaching states and `on` those of live ones.
-#[derive(Clone, Copy)]
-pub struct TaskTrails {
-    pub full: bool,
-    pub reached: [usize; 24],
-    pub lived: [usize; 24],
-    pub to: [u16; 1536],
-    pub on: [u16; 1536],
-}
 
 // The states of a task of an accepted file, with their trails. Left open is what `task_trails` leaves open.
 pub fn find_trails(
@@ -49,27 +38,7 @@ pub fn find_trails(
     ensures { AreaTrails (shaped w shape) (task (tasks_of file.now) number)
         area.new result.reached result.lived result.to result.on result.full }
 {
-    let mut reached = [0usize; 24];
-    let mut lived = [0usize; 24];
-    let mut to = [0u16; 1536];
-    let mut on = [0u16; 1536];
-    let full = task_trails(
-        task_body(file, number),
-        shape,
-        w,
-        area,
-        &mut reached,
-        &mut lived,
-        &mut to,
-        &mut on,
-    );
-    TaskTrails {
-        full,
-        reached,
-        lived,
-        to,
-        on,
-    }
+    task_trails(task_body(file, number), shape, w, area)
 }
 
 // The point of an unmasked block of a body, the rows there in a work area, and the end row of another task that cost most; which of several is left open.

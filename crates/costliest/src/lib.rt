@@ -21,11 +21,12 @@ use block_rows::row_list::RowList;
 use body::block_count;
 use cache::blocks::CacheShape;
 use cache::numbers::byte_count;
-use find::{TaskTrails, find_rows, find_trails, place_before, preemption_at};
+use find::{find_rows, find_trails, place_before, preemption_at};
 use project::answers::{Check, Refusal};
 use project::head::head;
 use reader::{file_shape, read_bodies, task_body};
 use run_sheet::{JoinedRun, write_sheet};
+use task_trails::TaskTrails;
 use trails::write::Place;
 
 // The fewest numbers of a lent sheet (check 19). No sheet that is written has more: task, path length and 1,536 blocks at most, count, position,

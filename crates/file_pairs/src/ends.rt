@@ -73,6 +73,7 @@ pub fn find_ends(
 {
     let part = 32 * w;
     let kind = 24 * part;
+    // By index: the task j has its place in each of three lists.
     for j in 0..tasks {
         let at = part * j;
         let count = task_ends(

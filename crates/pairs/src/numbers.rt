@@ -24,7 +24,7 @@ pub fn most_common(set: u32, sets: &[u32]) -> u32
     most
 }
 
-// How many cache blocks the largest of the sets has.
+// How many cache blocks the largest of the sets has. It is no one function with `most_common`: their loops are one line, and a closure would be as long.
 fn largest(sets: &[u32]) -> u32
     ensures { result ≡ largest_of sets.now }
 {

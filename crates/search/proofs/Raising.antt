@@ -4,10 +4,10 @@ use mathlib.Core.Path.{◌≡◌, refl, sym, ap, subst, ◌∙◌}
 use mathlib.Core.Logic.{◌⊎◌, inl, inr}
 use mathlib.Core.Bool.{Bool, true, false, true≢false}
 use mathlib.Core.List.{List, []}
-use Prim.Native.Nat.{ℕ, ◌+◌, ◌-◌, ◌*◌, ◌^◌, ◌≤◌, ◌<◌}
+use Prim.Native.Nat.{ℕ, ◌+◌, ◌^◌, ◌≤◌, ◌<◌}
 use native.Mathlib.Omega.{arith}
 use lib.Dec.{ltb}
-use lib.ListN.{length, get_or, take, drop}
+use lib.ListN.{length, get_or}
 use lib.Bits.{bit_and}
 use lib.Count.{ones, ones-le}
 use borrow.Author.Tests.{ltb-true, ltb-false}
@@ -16,8 +16,6 @@ use Rattle.cache.specs.Sets.{in_set}
 use Rattle.cache.proofs.Bits.{and_ones}
 use Rattle.model.specs.Tasks.{Task, block}
 use Rattle.model.specs.Computed.{unmasked}
-use Rattle.rows.specs.Rows.{rows_of}
-use Rattle.rows.proofs.Parts.{rows_at}
 use Rattle.points.specs.Points.{rest_of, left_rows, predecessors_of}
 use Rattle.row_sets.specs.Sets.{useful_set}
 use Rattle.search.specs.declared.Point.{Point}
@@ -98,27 +96,18 @@ module _ (p : Point) (l set : ℕ) (sets : List ℕ) where
       raised_kept (OfSet p l set sets) a
       (λ x s. omega (arith, ap (λ (y : Found). y.cost) s.1, and_ones 32 set (get_or sets x.ending 0) w))
 
--- ---- a row more: the row numbered k was lent as a part from w k to w k + w
+-- ---- a row more
 
-row_lent : (w n k : ℕ) (l : List ℕ) → k < n → get_or (rows_of w n l) k [] ≡ take (w * k + w - w * k) (drop (w * k) l)
-row_lent w n k l h = let s : w * k + w - w * k ≡ w = omega arith in rows_at w n k l h ∙ ap (λ (m : ℕ). take m (drop (w * k) l)) (sym s)
+pub live_more : (p : Point) (ls : List (List ℕ)) (row sets : List ℕ) (l : ℕ) {live : List ℕ} {set : ℕ} {a c d : Found} → live ≡ get_or ls l [] → set ≡ useful_set row live
+    → Raised (Below (λ x. x.live) l (AtLive p row ls sets)) a c → Raised (OfSet p l set sets) c d → Raised (Below (λ x. x.live) (l + 1) (AtLive p row ls sets)) a d
+live_more p ls row sets l is e so_far q =
+    raised_more (λ x. x.live) (AtLive p row ls sets) (λ l x s. ap (λ (y : Found). y.live) s.1) l so_far (rw (← is, ← e) q)
 
-pub live_more : (p : Point) (w lived : ℕ) (live row sets : List ℕ) (k : ℕ) {set : ℕ} {a c d : Found} → k < lived → set ≡ useful_set row (take (w * k + w - w * k) (drop (w * k) live))
-    → Raised (Below (λ x. x.live) k (AtLive p row (rows_of w lived live) sets)) a c → Raised (OfSet p k set sets) c d
-    → Raised (Below (λ x. x.live) (k + 1) (AtLive p row (rows_of w lived live) sets)) a d
-live_more p w lived live row sets k h e so_far q =
-    raised_more (λ x. x.live) (AtLive p row (rows_of w lived live) sets) (λ l x s. ap (λ (y : Found). y.live) s.1) k so_far
-    (rw (row_lent w lived k live h, ← e) q)
-
--- ---- a row before the block
-
-pub reaching_more : (k : Cache) (ms : List ℕ) (b d before w reached : ℕ) (reaching : List ℕ) (ls fs : List (List ℕ)) (r : ℕ) {a c e : Found} → r < reached
-    → Raised (Below (λ x. x.point.reaching) r (AtReaching k ms b d before (rows_of w reached reaching) ls fs)) a c
-    → Raised (OfDone k ms (point_after b d before r) (take (w * r + w - w * r) (drop (w * r) reaching)) ls fs) c e
-    → Raised (Below (λ x. x.point.reaching) (r + 1) (AtReaching k ms b d before (rows_of w reached reaching) ls fs)) a e
-reaching_more k ms b d before w reached reaching ls fs r h so_far q =
-    raised_more (λ x. x.point.reaching) (AtReaching k ms b d before (rows_of w reached reaching) ls fs) (λ r x s. ap (λ (y : Found). y.point.reaching) s.1.1) r so_far
-    (rw (row_lent w reached r reaching h) q)
+pub reaching_more : (k : Cache) (ms : List ℕ) (b d before : ℕ) (rs ls fs : List (List ℕ)) (r : ℕ) {row : List ℕ} {a c e : Found} → row ≡ get_or rs r []
+    → Raised (Below (λ x. x.point.reaching) r (AtReaching k ms b d before rs ls fs)) a c → Raised (OfDone k ms (point_after b d before r) row ls fs) c e
+    → Raised (Below (λ x. x.point.reaching) (r + 1) (AtReaching k ms b d before rs ls fs)) a e
+reaching_more k ms b d before rs ls fs r is so_far q =
+    raised_more (λ x. x.point.reaching) (AtReaching k ms b d before rs ls fs) (λ r x s. ap (λ (y : Found). y.point.reaching) s.1.1) r so_far (rw (← is) q)
 
 -- ---- a block before it more, where it is in the set and where not
 

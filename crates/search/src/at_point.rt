@@ -38,11 +38,9 @@ fn over_live(old: Found, point: Point, row: &[u16], live: &RowList, sets: &[u32]
     requires { length row.now ≡ live.now.w }
     ensures { Raised (OfLive point row.now (listed live.now) sets.now) old result }
 {
-    let w = live.w;
     let mut found = old;
     for l in 0..live.count {
-        let at = w * l;
-        let set = useful(row, &live.rows[at..at + w]);
+        let set = useful(row, live.row(l));
         found = over_ends(found, point, l, set, sets);
     }
     found

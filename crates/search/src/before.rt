@@ -52,10 +52,8 @@ fn over_reaching(
     ensures { Raised (OfReaching (cache_of block.now) (references_of block.now) block.now.number done before
         (listed reaching.now) (listed rows.now.live) (listed rows.now.ends)) old result }
 {
-    let w = reaching.w;
     let mut found = old;
     for k in 0..reaching.count {
-        let at = w * k;
         let point = Point {
             block: block.number,
             first: false,
@@ -63,7 +61,7 @@ fn over_reaching(
             reaching: k,
             done,
         };
-        found = over_done(found, point, block, &reaching.rows[at..at + w], rows);
+        found = over_done(found, point, block, reaching.row(k), rows);
     }
     found
 }

@@ -23,7 +23,8 @@ use body::{kept_walk, references};
 use cache::blocks::CacheShape;
 
 // A point of a block, where `done` of its references are done, and the row before the block: it is the first of a path, or comes after the block
-// `before`, with the reaching row of that numbered `reaching`.
+// `before`, with the reaching row of that numbered `reaching`. No Option for the row before: `Comes`, on which the theorem `makes_number` stands, says that
+// `before` and `reaching` are 0 at a first block.
 #[derive(Clone, Copy)]
 pub struct Point {
     pub block: usize,
@@ -34,7 +35,8 @@ pub struct Point {
 }
 
 // A point, the numbers of a live row of its block and of an end row of another task, and one more than the cache blocks that are useful at the point and
-// replaced by the end row; a cost of 0 tells that nothing is found.
+// replaced by the end row; a cost of 0 tells that nothing is found. No Option of this: where nothing is found, `makes_number` still says that its point and
+// rows are there, and `costliest::write_run` writes the run through them.
 #[derive(Clone, Copy)]
 pub struct Found {
     pub point: Point,
@@ -57,7 +59,8 @@ const NONE_FOUND: Found = Found {
     cost: 0,
 };
 
-// The rows of a task at a point, or before it in its block, that are live there, and the rows of another task's end block.
+// Live rows of a block, or of a point in it, and the rows of another task's end block. The live rows of a point are made on the way, so that the two have
+// lifetimes of their own.
 #[derive(Clone, Copy)]
 pub struct PointRows<'a, 'b> {
     pub live: RowList<'a>,

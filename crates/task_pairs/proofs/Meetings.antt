@@ -80,13 +80,15 @@ module _ (ends : Ends) (tasks : ℕ) (k : Cache) (ms : List ℕ) (ls : List (Lis
         ∙ ap (λ (r : List ℕ). best (done_most k ms ls r fs) (up_from 1 count)) (sym d))
 
   -- for one more row before the block
-  pub met_row : (w : ℕ) (rows : List ℕ) (i : ℕ) {n n' n'' : List ℕ} → Met (block_most k ms ls (rows_of w i rows)) ends tasks n n'
-      → Met (before_most k ms ls (take (w * i + w - w * i) (drop (w * i) rows))) ends tasks n' n''
+  pub met_row : (w : ℕ) (rows : List ℕ) (i : ℕ) {row n n' n'' : List ℕ} → row ≡ take w (drop (w * i) rows)
+      → Met (block_most k ms ls (rows_of w i rows)) ends tasks n n' → Met (before_most k ms ls row) ends tasks n' n''
       → Met (block_most k ms ls (rows_of w (i + 1) rows)) ends tasks n n''
-  met_row w rows i =
-      let row = take (w * i + w - w * i) (drop (w * i) rows) in
+  met_row w rows i {row} e =
+      let long : w * i + w - w * i ≡ w = omega arith in
+      let more : rows_of w (i + 1) rows ≡ rows_of w i rows ++ (row ∷ [])
+      = rows_more w i rows ∙ ap (λ (n : ℕ). rows_of w i rows ++ (take n (drop (w * i) rows) ∷ [])) long ∙ ap (λ (r : List ℕ). rows_of w i rows ++ (r ∷ [])) (sym e) in
       met_more ends tasks (block_most k ms ls (rows_of w (i + 1) rows))
-      (λ fs. ap (λ (l : List (List ℕ)). block_most k ms ls l fs) (rows_more w i rows)
+      (λ fs. ap (λ (l : List (List ℕ)). block_most k ms ls l fs) more
       ∙ best-append (λ (r : List ℕ). before_most k ms ls r fs) (rows_of w i rows) (row ∷ [])
       ∙ ap (max (block_most k ms ls (rows_of w i rows) fs)) (best-one (λ (r : List ℕ). before_most k ms ls r fs) row))
 

@@ -101,10 +101,8 @@ fn meet_rows(list: &RowList, points: &Points, numbers: &mut [u16])
     ensures { Met (block_most (cache_of points.now.block) (references_of points.now.block) (live_rows points.now.lives) (listed list.now))
         points.now.ends points.now.ends.tasks numbers.old numbers.new }
 {
-    let w = list.w;
     for k in 0..list.count {
-        let at = w * k;
-        meet_before(&list.rows[at..at + w], points, numbers);
+        meet_before(list.row(k), points, numbers);
     }
 }
 

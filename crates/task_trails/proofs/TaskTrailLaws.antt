@@ -1,12 +1,11 @@
 -- The trails of a task's rows are paths: `reach_trails` and `live_trails`.
 -- The idea: a step of a trail is a step of a path, forwards for reaching states and backwards for live ones.
 use mathlib.Core.Path.{◌≡◌, refl, sym, ap, subst, ◌∙◌}
-use mathlib.Core.Bool.{Bool, true, false, true≢false}
+use mathlib.Core.Bool.{Bool, true}
 use mathlib.Core.List.{List, [], ◌∷◌, ◌++◌, append-nil}
-use Prim.Native.Nat.{ℕ, zero, suc, ◌+◌, ◌*◌, ◌-◌, ◌/◌, ◌<◌}
+use Prim.Native.Nat.{ℕ, zero, suc, ◌+◌, ◌*◌, ◌/◌, ◌<◌}
 use native.Mathlib.Omega.{arith}
 use lib.ListN.{length, get_or, take, drop}
-use borrow.Rule.Slice.PartMut.{put_mid}
 use Rattle.cache.specs.References.{Real, All}
 use Rattle.cache.specs.Cache.{Cache, empty_row, with_references, first_references}
 use Rattle.cache.specs.Firsts.{firsts_over}
@@ -18,12 +17,12 @@ use Rattle.body.specs.Layout.{InBounds}
 use Rattle.body.specs.Jumps.{jump_sets}
 use Rattle.body.proofs.Decoded.{blocks-real}
 use Rattle.body.proofs.JumpLaws.{jumps-inside}
-use Rattle.rows.specs.Rows.{kind_length, area_length}
-use Rattle.gather.specs.Graph.{Graph, handed_on}
+use Rattle.rows.specs.Rows.{kind_length}
+use Rattle.gather.specs.Graph.{handed_on}
 use Rattle.gather.specs.Gathered.{graph_of}
 use Rattle.graphs.specs.Graphs.{first_rows, last_rows, predecessor_sets, reach_graph, live_graph, reach_of, live_of}
 use Rattle.graphs.proofs.Listed.{reach_hand, reach_leads, live_hand, live-leads}
-use Rattle.graphs.proofs.Gathered.{whole-first, whole_second, both_full, both-all, reach_same, live_same, area_rows}
+use Rattle.graphs.proofs.Gathered.{reach_same, live_same, area_rows}
 use Rattle.trails.specs.Trails.{held_row, parent_at, length_at, way_back, way_to, Came, began, handed, Trailed, GatheredTrails}
 use Rattle.task_trails.specs.TaskTrails.{PathTo, PathOn, ReachTrails, LiveTrails, AreaTrails, BothTrails}
 use Rattle.trails.proofs.TrailLaws.{trail_few}
@@ -143,30 +142,6 @@ pub same_trails : {w w' blocks first : ℕ} {sets sets' leaving leaving' enterin
     → GatheredTrails (graph_of w blocks sets leaving entering first row) rows counts trails full → GatheredTrails (graph_of w' blocks sets' leaving' entering' first row') rows counts trails full
 same_trails {blocks = blocks} {first = first} {rows = rows} {counts = counts} {trails = trails} {full = full} ew es el ee er =
     subst (λ g. GatheredTrails g rows counts trails full) (λ i. record { width = ew i; blocks = blocks; sets = es i; leaving = el i; entering = ee i; first = first; row = er i })
-
--- ---- both kinds in a work area
-
-module _ (r l : Graph) (area new : List ℕ) (long : length area ≡ area_length r.width) {counts to : List ℕ} {first : Bool} (h : GatheredTrails r new counts to first) where
-  pub trails_full : {lived on : List ℕ} → first ≡ true → length lived ≡ 24 → length on ≡ 1536 → BothTrails r l (put_mid 0 (kind_length r.width - 0) area new) counts lived to on true
-  trails_full e many size = record {
-    gathered = both_full r l area new long h.gathered e many;
-    to_long = h.long;
-    on_long = size;
-    reaching = λ q. absurd (true≢false q);
-    live = λ q. absurd (true≢false q);
-  }
-
-  pub trails_all : {live lived on : List ℕ} {full : Bool} → first ≡ false → l.width ≡ r.width → GatheredTrails l live lived on full
-      → BothTrails r l (put_mid (kind_length r.width) (kind_length r.width + kind_length r.width - kind_length r.width) (put_mid 0 (kind_length r.width - 0) area new) live) counts lived to on full
-  trails_all {live} e same g =
-      let size : length live ≡ kind_length r.width = g.gathered.long ∙ ap kind_length same in
-      record {
-        gathered = both-all r l area new long h.gathered e same g.gathered;
-        to_long = h.long;
-        on_long = g.long;
-        reaching = λ q. rw (whole-first (kind_length r.width) area new long h.gathered.long live size) (h.trailed e);
-        live = λ q. rw (whole_second (kind_length r.width) area new long h.gathered.long live size) (g.trailed q);
-      }
 
 pub area_trails : (k : Cache) (t : Task) (bounds : InBounds t) {blocks : ℕ} {sets first last area reached lived to on : List ℕ} {full : Bool} → blocks ≡ length t → sets ≡ jump_sets t
     → first ≡ first_rows k t → last ≡ last_rows k t → BothTrails (reach_of k.width blocks sets last) (live_of k.width blocks sets first) area reached lived to on full

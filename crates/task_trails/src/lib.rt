@@ -73,7 +73,19 @@ fn live_trails(
     )
 }
 
-// The rows of both kinds in a work area, those of reaching states first, and the trails of both: `to` for reaching states, `on` for live ones.
+// The states of a task in a work area: whether some block has more than 32 of a kind, how many rows of each kind a block has, and their trails, `to`
+// those of reaching states and `on` those of live ones. No Option of the lists: check 11 asks for the answers of two tasks (`costliest::check_two`) before
+// the lists of either are used.
+#[derive(Clone, Copy)]
+pub struct TaskTrails {
+    pub full: bool,
+    pub reached: [usize; 24],
+    pub lived: [usize; 24],
+    pub to: [u16; 1536],
+    pub on: [u16; 1536],
+}
+
+// The rows of both kinds in a work area, those of reaching states first, and the trails of both.
 // Left open is what `gather_trails` leaves open, the area from the counts on, and where some block has more than 32 reaching states the live ones.
 fn both_trails(
     blocks: usize,
@@ -82,64 +94,63 @@ fn both_trails(
     first: &[u16],
     last: &[u16],
     area: &mut [u16],
-    reached: &mut [usize; 24],
-    lived: &mut [usize; 24],
-    to: &mut [u16],
-    on: &mut [u16],
-) -> bool
-    requires { Width w × (0 < blocks) × (blocks ≤ 24) × (length first.now ≡ 24 * w) × (length last.now ≡ 24 * w)
-        × (length area.old ≡ area_length w) × (length reached.old ≡ 24) × (length lived.old ≡ 24) × (to.old ≡ no_trails) × (on.old ≡ no_trails) }
+) -> TaskTrails
+    requires { Width w × (0 < blocks) × (blocks ≤ 24) × (length first.now ≡ 24 * w) × (length last.now ≡ 24 * w) × (length area.old ≡ area_length w) }
     ensures { BothTrails (reach_of w blocks sets last.now) (live_of w blocks sets first.now)
-        area.new reached.new lived.new to.new on.new result }
+        area.new result.reached result.lived result.to result.on result.full }
 {
     let kind = 24 * (32 * w);
-    if reaching_trails(blocks, sets, w, last, &mut area[0..kind], reached, to) {
-        return true;
-    }
-    live_trails(
+    let mut reached = [0usize; 24];
+    let mut lived = [0usize; 24];
+    let mut to = [0u16; 1536];
+    let mut on = [0u16; 1536];
+    let mut full = reaching_trails(
         blocks,
         sets,
         w,
-        first,
-        &mut area[kind..kind + kind],
+        last,
+        &mut area[0..kind],
+        &mut reached,
+        &mut to,
+    );
+    if !full {
+        full = live_trails(
+            blocks,
+            sets,
+            w,
+            first,
+            &mut area[kind..kind + kind],
+            &mut lived,
+            &mut on,
+        );
+    }
+    TaskTrails {
+        full,
+        reached,
         lived,
+        to,
         on,
-    )
+    }
 }
 
-// The reaching and the live states of each block of a body, in a work area, and the trails of both kinds; true where some block has more than 32 of
-// either. Left open are the order of a block's rows, which trail a row has of several, what stands after the rows and the area from the counts on,
-// and after true the whole area, all counts and trails.
-pub fn task_trails(
-    body: &[u8],
-    shape: CacheShape,
-    w: usize,
-    area: &mut [u16],
-    reached: &mut [usize; 24],
-    lived: &mut [usize; 24],
-    to: &mut [u16],
-    on: &mut [u16],
-) -> bool
-    requires { (kept_of (decode body.now) ≡ true) × Holds w shape × Width w × (length area.old ≡ area_length w) × (length reached.old ≡ 24)
-        × (length lived.old ≡ 24) × (to.old ≡ no_trails) × (on.old ≡ no_trails) }
-    ensures { AreaTrails (shaped w shape) (task_of (decode body.now)) area.new reached.new lived.new
-        to.new on.new result }
+// The reaching and the live states of each block of a body, in a work area, and the trails of both kinds. Left open are the order of a block's rows, which
+// trail a row has of several, what stands after the rows and the area from the counts on, and where some block has more than 32 of either kind the whole
+// area, all counts and trails.
+pub fn task_trails(body: &[u8], shape: CacheShape, w: usize, area: &mut [u16]) -> TaskTrails
+    requires { (kept_of (decode body.now) ≡ true) × Holds w shape × Width w × (length area.old ≡ area_length w) }
+    ensures { AreaTrails (shaped w shape) (task_of (decode body.now)) area.new result.reached result.lived
+        result.to result.on result.full }
 {
     let room = 24 * w;
     let mut first = NO_ROWS;
     let mut last = NO_ROWS;
     let found = graphs(body, shape, w, &mut first[0..room], &mut last[0..room]);
-    let sets = found.sets;
     both_trails(
         found.blocks,
-        sets,
+        found.sets,
         w,
         &first[0..room],
         &last[0..room],
         area,
-        reached,
-        lived,
-        to,
-        on,
     )
 }

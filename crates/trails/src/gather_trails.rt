@@ -28,7 +28,8 @@ fn note(from: usize, before: [usize; 24], counts: &[usize], trails: &mut [u16])
 }
 
 // The rows of each block, their counts and their trails; true where some block has more than 32 rows.
-// Left open are which trail a row has of several that lead to it, what stands at places that have no row, and what `gather` leaves open.
+// Left open are which trail a row has of several that lead to it, what stands at places that have no row, and what `gather` leaves open. The first six
+// parameters are the graph, lent part by part as `gather::gather::gather` takes it.
 pub fn gather_trails(
     blocks: usize,
     sets: &[u32],

@@ -34,6 +34,7 @@ impl<'a> Place<'a> {
     {
         let long = out.len();
         let mut at = self.at;
+        // By index: the list is filled from its end.
         for k in 0..long {
             out[long - 1 - k] = (at / 32) as u16;
             at = count(self.trails[at]);

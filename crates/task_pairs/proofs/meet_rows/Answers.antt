@@ -11,6 +11,6 @@ loop-k-preserved c =
     let points = c.args.points.now in
     let block = points.block in (
       c.meet_before.auto.numbers ∙ at.invariant.0,
-      met_row points.ends points.ends.tasks (cache_of block) (references_of block) (live_rows points.lives) c.args.list.now.w c.args.list.now.rows.now at.k at.invariant.1
+      met_row points.ends points.ends.tasks (cache_of block) (references_of block) (live_rows points.lives) c.args.list.now.w c.args.list.now.rows.now at.k c.row.ensures.0 at.invariant.1
           c.meet_before.ensures,
     )

@@ -11,4 +11,4 @@ abbrev pub invariant-loop-k : goal.invariant-loop-k
 invariant-loop-k l =
     let block = l.points.block in
     (length l.numbers ≡ 8)
-    × Met (block_most (cache_of block) (references_of block) (live_rows l.points.lives) (rows_of l.w l.k l.list.rows.now)) l.points.ends l.points.ends.tasks l.initial.numbers l.numbers
+    × Met (block_most (cache_of block) (references_of block) (live_rows l.points.lives) (rows_of l.list.w l.k l.list.rows.now)) l.points.ends l.points.ends.tasks l.initial.numbers l.numbers

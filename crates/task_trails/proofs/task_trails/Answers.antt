@@ -43,10 +43,6 @@ both_trails-requires c =
       front_long (24 * w) (replicate 768 65535) (first_rows k t) found.2 (first_full_lem k t bounds.few),
       front_long (24 * w) (replicate 768 65535) (last_rows k t) found.3 (last_full k t bounds.few),
       start.requires.3,
-      start.requires.4,
-      start.requires.5,
-      start.requires.6,
-      start.requires.7,
     )
 
 pub returns : goal.returns

@@ -15,8 +15,7 @@ pub loop-l-preserved : goal.loop-l-preserved
 loop-l-preserved c =
     let at = c.loop-l in
     let args = c.args in
-    let live = args.live.now in
-    live_more args.point live.w live.count live.rows.now args.row.now args.sets.now at.l (omega arith) c.useful-set.ensures at.invariant c.over_ends-found.ensures
+    live_more args.point (listed args.live.now) args.row.now args.sets.now at.l c.row.ensures.1 c.useful-set.ensures at.invariant c.over_ends-found.ensures
 
 pub returns : goal.returns
 returns c =

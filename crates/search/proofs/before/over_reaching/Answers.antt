@@ -12,10 +12,9 @@ loop-k-preserved c =
     let at = c.loop-k in
     let args = c.args in
     let block = args.block.now in
-    let reaching = args.reaching.now in
     let rows = args.rows.now in
-    reaching_more (cache_of block) (references_of block) block.number args.done args.before reaching.w reaching.count reaching.rows.now (listed rows.live) (listed rows.ends)
-    at.k c.loop-k-test.true at.invariant c.over_done-found.ensures
+    reaching_more (cache_of block) (references_of block) block.number args.done args.before (listed args.reaching.now) (listed rows.live) (listed rows.ends)
+    at.k c.row.ensures.1 at.invariant c.over_done-found.ensures
 
 pub returns : goal.returns
 returns c =
