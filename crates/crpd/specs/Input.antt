@@ -1,9 +1,6 @@
 -- What is known of the input that was read. Definitions only.
-use Rattle.std.specs.Prelude.{ℕ, ◌≤◌}
-use Rattle.crpd.specs.declared.Input.{Input}
-use Rattle.crpd.specs.declared.Input.TheVariants.{Bytes, Failed}
+use Rattle.std.specs.Prelude.{ℕ, ◌≤◌, Result, IfOk}
 
 -- no more bytes were read than there is room for
-abbrev pub Within : Input → ℕ → Type 0
-Within (Bytes n) room = n ≤ room
-Within (Failed e) room = Unit {0}
+abbrev pub Within : {E : Type 0} → Result ℕ E → ℕ → Type 0
+Within read room = IfOk read (λ n. n ≤ room)

@@ -4,49 +4,27 @@
 ghost use Rattle.std.specs.Prelude.{length};
 ghost use Rattle.crpd.specs.Input.{Within};
 
-use project::answers::{Filling, NO_TASK};
+use project::answers::{Check, NO_TASK, Refusal};
 use report::report;
 use std::env::FillError;
 use std::io::{IsTerminal, Read};
 use std::rt::{Env, Runtime};
 use std::{fs, io};
 
-// What reading answers: how many bytes now stand at the front, or that a read failed, and why.
-#[derive(Drop)]
-enum Input {
-    Bytes(usize),
-    Failed(io::Error),
-}
-
-// Reads once; no bytes at the end of the input. How many are read is up to the system, so the promise is a bound only.
-fn read_some(input: &mut impl Read, room: &mut [u8]) -> Input
-    ensures { Within result (length room.old) }
-{
-    match input.read(room) {
-        Ok(n) => Input::Bytes(n),
-        Err(error) => Input::Failed(error),
-    }
-}
-
-// Reads until the room is full or the input ends. How many bytes are read is up to the system, so the promise is a bound only.
-fn read_input(input: &mut impl Read, room: &mut [u8]) -> Input
+// Reads until the room is full or the input ends: how many bytes now stand at the front. How many are read is up to the system, so the promise is a
+// bound only.
+fn read_input(input: &mut impl Read, room: &mut [u8]) -> io::Result<usize>
     ensures { Within result (length room.old) }
 {
     let mut done = 0;
     while done < room.len() {
-        match read_some(input, &mut room[done..]) {
-            Input::Failed(error) => {
-                return Input::Failed(error);
-            }
-            Input::Bytes(n) => {
-                if n == 0 {
-                    return Input::Bytes(done);
-                }
-                done += n;
-            }
+        let n = input.read(&mut room[done..])?;
+        if n == 0 {
+            return Ok(done);
         }
+        done += n;
     }
-    Input::Bytes(done)
+    Ok(done)
 }
 
 // Writes to standard error. Where that fails, there is no place left to tell it.
@@ -80,34 +58,32 @@ fn fail(rt: &(impl Eprint + Alloc), what: &str, error: &io::Error) {
     complain(rt, "\n");
 }
 
-// Writes when a check of a file fails. Check 1 is about lists, 10 is never given, and those from 12 on belong to other calls.
-fn complain_of_check(rt: &impl Eprint, check: u8) {
-    match check {
-        2 => complain(rt, "the file has under 8 or over 7,544 bytes"),
-        3 => complain(rt, "the first four bytes are not CRPD"),
-        4 => complain(rt, "the edition is not 1"),
-        5 => complain(rt, "the number of cache blocks is outside 1 to 16"),
-        6 => complain(
-            rt,
-            "the number of tasks is outside 1 to 8, or byte 7 is not 0",
-        ),
-        7 => complain(rt, "an offset or a length in the contents is wrong"),
-        8 => complain(rt, "a body breaks its layout"),
-        9 => complain(rt, "a block is on no complete path"),
-        11 => complain(rt, "a block has 33 or more reaching or live states"),
-        _ => {}
-    }
+// Writes when a check of a file fails. The other checks are about lists, sheets and times, and belong to other calls.
+fn complain_of_check(rt: &impl Eprint, check: Check) {
+    let words = match check {
+        Check::FileLength => "the file has under 8 or over 7,544 bytes",
+        Check::WrongMark => "the first four bytes are not CRPD",
+        Check::WrongEdition => "the edition is not 1",
+        Check::CacheBlocks => "the number of cache blocks is outside 1 to 16",
+        Check::TaskCount => "the number of tasks is outside 1 to 8, or byte 7 is not 0",
+        Check::WrongContents => "an offset or a length in the contents is wrong",
+        Check::BrokenLayout => "a body breaks its layout",
+        Check::OffPath => "a block is on no complete path",
+        Check::TooManyStates => "a block has 33 or more reaching or live states",
+        _ => "",
+    };
+    complain(rt, words);
 }
 
 // A refusal in words, on one line: "check 8: a body breaks its layout, in task 0".
-fn explain(rt: &impl Eprint, check: u8, task: u8) {
+fn explain(rt: &impl Eprint, refused: Refusal) {
     complain(rt, "check ");
-    complain_number(rt, check);
+    complain_number(rt, refused.check.number());
     complain(rt, ": ");
-    complain_of_check(rt, check);
-    if task != NO_TASK {
+    complain_of_check(rt, refused.check);
+    if refused.task != NO_TASK {
         complain(rt, ", in task ");
-        complain_number(rt, task);
+        complain_number(rt, refused.task);
     }
     complain(rt, "\n");
 }
@@ -121,9 +97,8 @@ fn print_report(rt: &(impl Print + Eprint + Alloc), file: &[u8]) {
     if let Err(error) = rt.write_all(&out[..length]) {
         fail(rt, "standard output", &error);
     }
-    let answer = told.answer;
-    if let Filling::Refused { check, task } = answer {
-        explain(rt, check, task);
+    if let Err(refused) = told.answer {
+        explain(rt, refused);
     }
 }
 
@@ -133,12 +108,8 @@ fn print_input(rt: &(impl Print + Eprint + Alloc), input: impl Read + Drop, name
     let mut input = input;
     let mut room = [0u8; 7545];
     match read_input(&mut input, &mut room) {
-        Input::Failed(error) => {
-            fail(rt, name, &error);
-        }
-        Input::Bytes(n) => {
-            print_report(rt, &room[..n]);
-        }
+        Err(error) => fail(rt, name, &error),
+        Ok(n) => print_report(rt, &room[..n]),
     }
 }
 
