@@ -2,34 +2,14 @@
 #![tactic(auto)]
 
 use example_files::{APART, AROUND, EIGHT, THREE};
-use nested_replay::{NestedReplaying, nested_replay};
+use nested_replay::nested_replay;
 
-// Prints the text. A failed write is passed over: what the program prints is compared as a whole.
-fn print(rt: &impl Print, text: &str) {
-    let _ = rt.print(text);
-}
-
-// A number after its name.
-fn print_named(rt: &impl Print, name: &str, x: u64) {
-    print(rt, name);
-    let _ = rt.print(x);
-}
-
-// What the call answers.
+// What the call answers. A failed write is passed over: what the program prints is compared as a whole.
 fn show(rt: &impl Print, file_name: &str, file: &[u8], name: &str, sheet: &[u16]) {
-    print(rt, file_name);
-    print(rt, ", ");
-    print(rt, name);
-    match nested_replay(file, sheet) {
-        NestedReplaying::Counted { total } => {
-            print_named(rt, ": total ", total);
-        }
-        NestedReplaying::Refused { check, task } => {
-            print_named(rt, ": refused ", check as u64);
-            print_named(rt, " task ", task as u64);
-        }
-    }
-    print(rt, "\n");
+    let _ = match nested_replay(file, sheet) {
+        Ok(total) => println!(rt; "{file_name}, {name}: total {total}"),
+        Err(refused) => println!(rt; "{file_name}, {name}: {refused}"),
+    };
 }
 
 // Totals.

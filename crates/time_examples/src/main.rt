@@ -1,39 +1,17 @@
 // Prints the time of some numbers of misses, penalties and clocks, and what check 17 refuses.
 #![tactic(auto)]
 
-use microseconds::{Timing, microseconds};
+use microseconds::{Time, microseconds};
 
-// Prints the text. A failed write is passed over: what the program prints is compared as a whole.
-fn print(rt: &impl Print, text: &str) {
-    let _ = rt.print(text);
-}
-
-fn print_number(rt: &impl Print, x: u64) {
-    let _ = rt.print(x);
-}
-
-// A number after its name.
-fn print_named(rt: &impl Print, name: &str, x: u64) {
-    print(rt, name);
-    print_number(rt, x);
-}
-
-// What the call answers.
+// What the call answers. A failed write is passed over: what the program prints is compared as a whole.
 fn show(rt: &impl Print, number: u32, penalty: u32, clock: u32) {
-    print_named(rt, "number ", number as u64);
-    print_named(rt, ", penalty ", penalty as u64);
-    print_named(rt, ", clock ", clock as u64);
-    match microseconds(number, penalty, clock) {
-        Timing::Timed { whole, remainder } => {
-            print_named(rt, ": ", whole as u64);
-            print_named(rt, " microseconds, remainder ", remainder as u64);
-        }
-        Timing::Refused { check, task } => {
-            print_named(rt, ": refused ", check as u64);
-            print_named(rt, " task ", task as u64);
-        }
-    }
-    print(rt, "\n");
+    let _ = print!(rt; "number {number}, penalty {penalty}, clock {clock}: ");
+    let _ = match microseconds(number, penalty, clock) {
+        Ok(Time { whole, remainder }) => println!(rt;
+            "{whole} microseconds, remainder {remainder}"
+        ),
+        Err(refused) => println!(rt; "{refused}"),
+    };
 }
 
 // Times with and without a remainder, and those at the bounds.
