@@ -1,25 +1,17 @@
 -- Check 17 in the code's words: what it answers by its test, and what its passing says of products and of the clock.
 -- The idea: a product is at most that of the bounds.
 use mathlib.Core.Path.{◌≡◌, sym, ap}
-use mathlib.Core.Bool.{true, false, ◌||◌}
+use mathlib.Core.Bool.{◌||◌}
 use Prim.Native.Nat.{ℕ, ◌*◌, ◌≤◌, ◌<◌}
 use native.Mathlib.Nat.{mul-le-mul}
 use lib.Dec.{ltb}
 use borrow.Author.Tests.{ltb-false}
-use Rattle.std.specs.Prelude.{Ok, Err}
+use Rattle.std.specs.Prelude.{Ok}
 use Rattle.project.specs.declared.answers.Check.TheVariants.{OutOfBounds}
-use Rattle.project.specs.declared.answers.Refusal.{Refusal}
-use Rattle.project.specs.Checklist.{no_task, refusal, Checked, answered}
+use Rattle.project.specs.Checklist.{no_task, Checked, answered}
 use Rattle.project.proofs.Accepted.{unless-passed, or_false_left, or_false_right}
 use Rattle.project.specs.Reading.{outside}
 use Rattle.microseconds.specs.Microseconds.{largest_number, largest_penalty, largest_clock, test17, microseconds_check, time_of, timing_of}
-
--- what check 17 answers, by its test
-pub at_17 : (number penalty clock : ℕ) {r : Refusal} → r ≡ refusal OutOfBounds no_task → test17 number penalty clock ≡ true → Err r ≡ microseconds_check number penalty clock
-at_17 number penalty clock q e = rw (q, e)
-
-pub at_none : (number penalty clock : ℕ) → test17 number penalty clock ≡ false → Ok tt ≡ microseconds_check number penalty clock
-at_none number penalty clock e = rw e
 
 -- what is used of check 17's passing
 pub record Within (number penalty clock : ℕ) : Type 0 where

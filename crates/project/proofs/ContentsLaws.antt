@@ -153,10 +153,6 @@ module _ (s : List ℕ) where
 nine-take : (l : List ℕ) (n : ℕ) → n ≤ length l → nine (take n l) ≡ take n l ++ replicate (9 - n) 0
 nine-take l n h = ap (λ (k : ℕ). take n l ++ replicate (9 - k) 0) (length-take-le n l h)
 
-pub nine_start : (l : List ℕ) {v : ℕ} → 0 < length l → v ≡ get_or l 0 0 → set (replicate 9 0) 0 v ≡ nine (take 1 l)
-nine_start [] h e = absurd (not-suc-le-zero h)
-nine_start (x ∷ l) h e = rw e
-
 pub nine_turn : (l : List ℕ) (n : ℕ) {old : List ℕ} {v : ℕ} → n < length l → n < 9 → old ≡ nine (take n l) → v ≡ get_or l n 0 → set old n v ≡ nine (take (n + 1) l)
 nine_turn l n h b eo ev =
     let room : 9 - n ≡ suc (9 - (n + 1)) = omega arith in
@@ -184,12 +180,6 @@ module _ (s : List ℕ) (t j at : ℕ) (h : j < t) where
   pub fit_wrong : (offset_of s j ≡ at → ⊥) → contents_fit s (t - j) j at ≡ false
   fit_wrong e = rw (left_one, ne_eqb (offset_of s j) at e)
 
--- at the end what is left is the test of the last end
-pub fit_end : (s : List ℕ) (t j at : ℕ) → j ≡ t → contents_fit s (t - j) j at ≡ eqb at (length s)
-fit_end s t j at e =
-    let none : t - j ≡ 0 = omega arith in
-    rw none
-
 -- ---- the numbers of an entry, by where the contents begin
 
 module _ (s : List ℕ) (j : ℕ) {start : ℕ} (e : start ≡ contents_start (edition s)) where
@@ -203,10 +193,6 @@ module _ (s : List ℕ) (j : ℕ) {start : ℕ} (e : start ≡ contents_start (e
 
 pub none_not_some : {ends : List ℕ} → None ≡ Some ends → ⊥
 none_not_some e = cc
-
-pub answer_fit : (s : List ℕ) (t : ℕ) {ends : List ℕ} → contents_fit s t 0 (bodies_start (edition s) t) ≡ true → ends ≡ nine (ends_from s t 0 (bodies_start (edition s) t))
-    → Some ends ≡ ends_of s t
-answer_fit s t e q = rw (e, q)
 
 pub answer-none : (s : List ℕ) (t : ℕ) → contents_fit s t 0 (bodies_start (edition s) t) ≡ false → None ≡ ends_of s t
 answer-none s t e = rw e

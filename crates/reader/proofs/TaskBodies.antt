@@ -3,20 +3,20 @@
 use mathlib.Core.Path.{◌≡◌, refl, sym, ap, ◌∙◌}
 use mathlib.Core.Bool.{true, false, false≢true}
 use mathlib.Core.List.{List}
-use Prim.Native.Nat.{ℕ, zero, suc, ◌+◌, ◌-◌, ◌≤◌, ◌<◌}
+use Prim.Native.Nat.{ℕ, zero, suc, ◌+◌, ◌≤◌, ◌<◌}
 use native.Mathlib.Nat.{not-suc-le-zero, zero-add, add-zero, add-suc, suc-add}
 use native.Mathlib.Omega.{arith}
-use lib.ListN.{length, take, drop, length-map}
+use lib.ListN.{length, length-map}
 use borrow.Author.Tests.{not-false}
 use Rattle.model.specs.Tasks.{task}
 use Rattle.body.specs.Layout.{InBounds}
 use Rattle.body.specs.Decode.{decode, task_of}
 use Rattle.body.specs.Walk.{kept_of}
 use Rattle.body.proofs.Decoded.{decoded-bounds}
-use Rattle.body.proofs.WalksParts.{kept-decoded, part_is}
+use Rattle.body.proofs.WalksParts.{kept-decoded}
 use Rattle.std.specs.Prelude.{Ok, Err}
 use Rattle.project.specs.declared.answers.Refusal.{Refusal}
-use Rattle.project.specs.File.{cache_blocks, task_count, offset_of, size_of, body_of, bodies_from, bodies}
+use Rattle.project.specs.File.{cache_blocks, task_count, body_of, bodies_from, bodies}
 use Rattle.project.specs.Checks.{body}
 use Rattle.project.specs.Reading.{test8, file_check, Reading, counts_of, reading_of}
 use Rattle.project.specs.Checklist.{Checked, answered}
@@ -83,9 +83,6 @@ pub body-task : (s : List ℕ) (j : ℕ) → TaskBody s j → {b : List ℕ} →
 body-task s j at e = ap (λ (b : List ℕ). task_of (decode b)) e ∙ sym at.same
 
 -- ---- in the code's words: the part of the file where the contents say that the body stands
-
-pub part_body : (s : List ℕ) (j : ℕ) {start long : ℕ} → start ≡ offset_of s j → long ≡ size_of s j → take (start + long - start) (drop start s) ≡ body_of s j
-part_body s j e f = part_is s e f
 
 -- ---- all tasks
 

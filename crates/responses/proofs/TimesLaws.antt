@@ -21,9 +21,6 @@ use Rattle.responses.specs.Plan.{times_with, times_of}
 
 -- ---- tests of numbers
 
-pub any_turn : (test : ℕ → Bool) (i : ℕ) → any i test ≡ false → test i ≡ false → any (i + 1) test ≡ false
-any_turn test i e f = rw (add-one i, e, f)
-
 pub any_has : (test : ℕ → Bool) (n i : ℕ) → i < n → test i ≡ true → any n test ≡ true
 any_has test zero i l e = absurd (not-suc-le-zero l)
 any_has test (suc n) i l e = go (eqb i n) refl (λ m. any_has test n i m e)

@@ -1,7 +1,7 @@
 -- The sorted area of a task's body is the one that the definitions ask for; where a block has too many rows, check 11 fails.
 -- The idea: each of the two kinds is told block by block by what gathering leaves.
 use mathlib.Core.Path.{◌≡◌, sym, ap₂, ◌∙◌}
-use mathlib.Core.Bool.{Bool, true, false, true≢false}
+use mathlib.Core.Bool.{Bool, false}
 use mathlib.Core.List.{List, ◌++◌}
 use Prim.Native.Nat.{ℕ}
 use lib.ListN.{length, take, drop, replicate}
@@ -26,10 +26,6 @@ module _ {k : Cache} {t : Task} {area reached lived : List ℕ} {full : Bool} (g
 
   abbrev live_rows : List ℕ
   live_rows = take (kind_length w) (drop (kind_length w) area)
-
-  -- some block has too many rows
-  pub body_full : full ≡ true → BodyStates k t area true
-  body_full f = record { long = gathered.long; answer = sym f ∙ gathered.rows.answer; filled = λ q. absurd (true≢false q) }
 
   module _ (width : Width w) (fits : full ≡ false) where
     none : test11 k t ≡ false

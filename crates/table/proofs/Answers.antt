@@ -5,14 +5,12 @@ use mathlib.Core.Bool.{false}
 use mathlib.Core.List.{List, ◌++◌}
 use Prim.Native.Nat.{ℕ}
 use lib.ListN.{length}
-use borrow.Author.Tests.{eq-eqb, ne_eqb}
-use Rattle.cache.specs.Cache.{Cache}
+use borrow.Author.Tests.{eq-eqb}
 use Rattle.cache.specs.Shape.{shaped}
 use Rattle.cache.specs.declared.blocks.CacheShape.{CacheShape}
 use Rattle.std.specs.Prelude.{Ok, Err}
-use Rattle.project.specs.declared.answers.Check.TheVariants.{ListLength}
 use Rattle.project.specs.declared.answers.Refusal.{Refusal}
-use Rattle.project.specs.Checklist.{no_task, refusal, Checked, and_then, verdict_of, left_by}
+use Rattle.project.specs.Checklist.{Checked, and_then, verdict_of, left_by}
 use Rattle.project.specs.Reading.{file_checks, file_check, reading_of}
 use Rattle.project.specs.Tasks.{tasks_of, file_shape, file_cache_in}
 use Rattle.project.proofs.Checklists.{then_none, verdict_append}
@@ -28,34 +26,12 @@ later-parts w s = verdict_append (file_checks s) (full_checks w s) ∙ ap (and_t
 refused_as : (table new : List ℕ) {r answer : Checked} {x : Refusal} → r ≡ Err x → answer ≡ Err x → (answer ≡ r) × (table ≡ left_by r new table)
 refused_as table new e q = (q ∙ sym e, rw e)
 
--- ---- check 11 of all tasks says r
-
-module _ (k : Cache) (s table : List ℕ) {r : Checked} (told : r ≡ first_full k 0 (tasks_of s)) where
-  pub too_many_lem : {x : Refusal} {answer : Checked} → r ≡ Err x → answer ≡ Err x
-      → (answer ≡ first_full k 0 (tasks_of s)) × (table ≡ left_by (first_full k 0 (tasks_of s)) (table_of s) table)
-  too_many_lem e q = refused_as table (table_of s) (sym told ∙ e) q
-
-  -- the table was copied from the numbers
-  pub all-filled : {numbers now : List ℕ} → r ≡ Ok tt → now ≡ numbers → (r ≡ Ok tt → numbers ≡ table_of s)
-      → (Ok tt ≡ first_full k 0 (tasks_of s)) × (now ≡ left_by (first_full k 0 (tasks_of s)) (table_of s) table)
-  all-filled e z f = let p = sym told ∙ e in (sym p, z ∙ f e ∙ rw p)
-
 -- ---- the call, for rows of w places
 
 module _ (w : ℕ) (s area table : List ℕ) where
   -- what is answered, and what the table holds afterwards
   abbrev Ends : Checked → List ℕ → Type 0
   Ends answer now = (answer ≡ table_answer w s area table) × (now ≡ table_after w s area table)
-
-  -- check 1: another length of the area, or of the table
-  pub other_area : {r : Refusal} → r ≡ refusal ListLength no_task → (length area ≡ area_length w → ⊥) → Ends (Err r) table
-  other_area q h = let e = ne_eqb (length area) (area_length w) h in (rw (q, e), rw e)
-
-  pub other_table : {r : Refusal} → r ≡ refusal ListLength no_task → length area ≡ area_length w → (length table ≡ 64 → ⊥) → Ends (Err r) table
-  other_table q g h =
-      let d = eq-eqb (length area) (area_length w) g in
-      let e = ne_eqb (length table) 64 h in
-      (rw (q, d, e), rw (d, e))
 
   module _ (g : length area ≡ area_length w) (h : length table ≡ 64) where
     right : test1 w area table ≡ false

@@ -42,15 +42,6 @@ module _ (k n : ℕ) (s ls out : List ℕ) where
       (verdict_append (task_checks (cut s ls)) (one OutLength no_task (ltb (length out) (file_length k s ls)) (Fault14 k n s ls out) ∷ [])
       ∙ ap (and_then (tasks_check (cut s ls))) (then_none (unless OutLength no_task (ltb (length out) (file_length k s ls)))))
 
-  pub at5 : {r : Refusal} → r ≡ refusal CacheBlocks no_task → test5 k n ≡ true → Err r ≡ writer_check_in k n s ls out
-  at5 q e5 = rw (q, e5)
-
-  pub at6 : {r : Refusal} → r ≡ refusal TaskCount no_task → test5 k n ≡ false → count_test (length ls) ≡ true → Err r ≡ writer_check_in k n s ls out
-  at6 q e5 e6 = rw (q, e5, e6)
-
-  pub at7 : {r : Refusal} → r ≡ refusal WrongContents no_task → Past6 → eqb (total ls) (length s) ≡ false → Err r ≡ writer_check_in k n s ls out
-  at7 q (e5, e6) e7 = rw (q, e5, e6, e7)
-
   pub at_tasks : Past7 → {r : Refusal} → tasks_check (cut s ls) ≡ Err r → Err r ≡ writer_check_in k n s ls out
   at_tasks ((e5, e6), e7) e = sym (writer_parts ∙ rw (e5, e6, e7, e))
 
@@ -97,10 +88,6 @@ module _ (k n : ℕ) (s ls out : List ℕ) where
       }
 
   -- ---- the two answers
-
-  pub answer-refused : {r : Refusal} {answer : Writing} → writer_check_in k n s ls out ≡ Err r → answer ≡ Err r
-      → (answer ≡ writing_in k n s ls out) × (out ≡ out_in k n s ls out)
-  answer-refused e q = (rw e q, rw e)
 
   pub answer_written : {l : ℕ} {new : List ℕ} → writer_check_in k n s ls out ≡ Ok tt → l ≡ file_length k s ls → new ≡ file_in k n (cut s ls) ++ drop (file_length k s ls) out
       → (Ok l ≡ writing_in k n s ls out) × (new ≡ out_in k n s ls out)

@@ -10,8 +10,8 @@ use native.Mathlib.Omega.{arith}
 use lib.Dec.{eqb}
 use lib.ListN.{length, get_or, take, drop, replicate, drop_of_length-le}
 use lib.Seq.{drop-cons, drop-drop}
-use borrow.Author.Tests.{eqb-true, ne_eqb}
-use Rattle.std.specs.Prelude.{Some, None}
+use borrow.Author.Tests.{eqb-true}
+use Rattle.std.specs.Prelude.{Some}
 use Rattle.project.specs.Ends.{nine, between, InOrder}
 use Rattle.project.specs.Writing.{total, cut}
 use Rattle.project.proofs.ContentsLaws.{nine-at, none_not_some}
@@ -50,9 +50,6 @@ sums_start (l ∷ ls) = refl
 pub answer_fit : (s ls : List ℕ) {ends : List ℕ} → eqb (total ls) (length s) ≡ true → ends ≡ nine (sums 0 ls) → Some ends ≡ cut_ends s ls
 answer_fit s ls e q = rw (e, q)
 
-pub answer-none : (s ls : List ℕ) → (total ls ≡ length s → ⊥) → None ≡ cut_ends s ls
-answer-none s ls h = rw (ne_eqb (total ls) (length s) h)
-
 -- ends that were found, and that none were
 pub found-fit : (s ls : List ℕ) {ends : List ℕ} → cut_ends s ls ≡ Some ends → (eqb (total ls) (length s) ≡ true) × (ends ≡ nine (sums 0 ls))
 found-fit s ls {ends} e = go (eqb (total ls) (length s)) refl
@@ -60,13 +57,6 @@ found-fit s ls {ends} e = go (eqb (total ls) (length s)) refl
     go : (b : Bool) → eqb (total ls) (length s) ≡ b → (eqb (total ls) (length s) ≡ true) × (ends ≡ nine (sums 0 ls))
     go true q = let told : Some (nine (sums 0 ls)) ≡ Some ends = rw q at e in (q, cc)
     go false q = absurd (none_not_some (rw q at e))
-
-pub none-fit : (s ls : List ℕ) → cut_ends s ls ≡ None → eqb (total ls) (length s) ≡ false
-none-fit s ls e = go (eqb (total ls) (length s)) refl
-  where
-    go : (b : Bool) → eqb (total ls) (length s) ≡ b → eqb (total ls) (length s) ≡ false
-    go true q = absurd (none_not_some (sym (rw q at e)))
-    go false q = q
 
 -- ---- what lies between the ends
 

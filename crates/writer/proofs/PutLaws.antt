@@ -9,7 +9,6 @@ use native.Mathlib.Omega.{arith}
 use lib.ListN.{length, get_or, take, drop, set, replicate, length-append, length-drop, length-replicate, take-append-drop, drop_of_length-le}
 use lib.Seq.{drop-cons, drop-drop, length-take-le, sets, sets-eq}
 use borrow.Rule.Slice.PartMut.{put_mid, post_of}
-use Rattle.body.specs.Layout.{two_bytes}
 use Rattle.project.specs.File.{mark, reserve, contents_start, bodies_start, joined, contents_of, file_in}
 use Rattle.project.specs.Writing.{total, cut, file_length}
 use Rattle.writer.specs.Pieces.{entries}
@@ -27,17 +26,6 @@ bytes_copied out piece at h =
     let k : at + length piece - at ≡ length piece = omega arith in
     let rest : post_of at (at + length piece - at) out ≡ drop (at + length piece) out = ap (λ (n : ℕ). post_of at n out) k ∙ drop-drop (length piece) at out in
     ap (λ (q : List ℕ). take at out ++ (piece ++ q)) rest ∙ sym (sets-eq piece out at h ∙ append_assoc (take at out) piece (drop (at + length piece) out))
-
--- a turn of the loop over lengths
-pub entry_turn : (start : ℕ) (ls out : List ℕ) {next : List ℕ} (offset j : ℕ) → j < length ls → next ≡ sets out (start + 4 * j) (two_bytes (offset ∷ get_or ls j 0 ∷ []))
-    → sets next (start + 4 * (j + 1)) (entries (offset + get_or ls j 0) (drop (j + 1) ls)) ≡ sets out (start + 4 * j) (entries offset (drop j ls))
-entry_turn start ls out offset j h e =
-    let four : start + 4 * (j + 1) ≡ start + 4 * j + 4 = omega arith in
-    rw (e, four, drop-cons ls j 0 h, add-one j)
-    (sym (sets-append (two_bytes (offset ∷ get_or ls j 0 ∷ [])) (entries (offset + get_or ls j 0) (drop (suc j) ls)) out (start + 4 * j)))
-
-pub entries-end : (ls out : List ℕ) (offset at j : ℕ) → length ls ≤ j → out ≡ sets out at (entries offset (drop j ls))
-entries-end ls out offset at j h = rw (drop_of_length-le ls {i = j} h)
 
 pub total-step : (ls : List ℕ) (j : ℕ) → j < length ls → total (drop j ls) ≡ get_or ls j 0 + total (drop (j + 1) ls)
 total-step ls j h = rw (drop-cons ls j 0 h, add-one j)
@@ -64,15 +52,6 @@ contents_cut at s (l ∷ ls) h =
 length-entries : (at : ℕ) (ls : List ℕ) → length (entries at ls) ≡ 4 * length ls
 length-entries at [] = refl
 length-entries at (l ∷ ls) = omega (arith, length-entries (at + l) ls)
-
--- ---- the zero bytes after byte 7
-
-module _ (out : List ℕ) {k : ℕ} where
-  pub none-put : k ≡ 1 → out ≡ sets out 8 (replicate (reserve k) 0)
-  none-put e = rw e
-
-  pub four_put : k ≡ 2 → sets out 8 (replicate (reserve k) 0) ≡ sets out 8 (replicate 4 0)
-  four_put e = rw e
 
 -- ---- the whole file
 

@@ -4,8 +4,5 @@ use Rattle.project.proofs.Checklists.{refused_by}
 use Rattle.reader.proofs.ReadLaws.{head_refused}
 use Rattle.reader.proofs.read.Goals as goal
 
-pub read_bodies-requires : goal.read_bodies-requires
-read_bodies-requires c = sym c.head.ensures ∙ c.in_ok-head.was
-
 pub returns-in_err-head : goal.returns-in_err-head
 returns-in_err-head c = refused_by c.from_residual.ensures ∙ head_refused 1 c.args.file.now (sym c.head.ensures ∙ c.in_err-head.was)

@@ -10,7 +10,6 @@ use Rattle.project.specs.Checklist.{no_task, refusal}
 use Rattle.project.specs.Reading.{contents_fit, tasks_check}
 use Rattle.project.proofs.Checklists.{refused_by}
 use Rattle.reader.proofs.ReadLaws.{HeadPassed, head_passed, fit_found, fit_none, read_contents, read_tasks, read_accepted, ends-order, ends-bodies}
-use borrow.Author.Rules.{rules}
 use Rattle.reader.proofs.read_bodies.Goals as goal
 use Rattle.reader.proofs.read_bodies.Goals.{After-check_tasks, In_ok-ends, Start}
 
@@ -26,12 +25,6 @@ bodies-checked c =
     let found = sym c.contents.ensures ∙ c.in_ok-ends.ensures.ok_part in
     c.check_tasks.ensures
     ∙ ap tasks_check (ends-bodies 1 c.args.file.now c.requires (fit_found c.args.file.now c.byte_count.ensures.0 found) _ c.byte_count.ensures.0 _ found c.byte_count-2.ensures.0)
-
-pub bounds-file-5 : goal.bounds-file-5
-bounds-file-5 c = omega (arith, (head (goal.at.bounds-file-5 c).Start).long)
-
-pub bounds-file-6 : goal.bounds-file-6
-bounds-file-6 c = let l = (head (goal.at.bounds-file-6 c).Start).long in search rules
 
 pub contents-requires : goal.contents-requires
 contents-requires c =

