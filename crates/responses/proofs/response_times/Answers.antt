@@ -1,5 +1,6 @@
 -- `response_times` meets its contract: the plan by the times of the list, set in the list. Assumes nothing.
 use mathlib.Core.Path.{◌≡◌, sym, ap, ◌∙◌}
+use native.Mathlib.Omega.{arith}
 use Rattle.std.specs.Prelude.{Ok}
 use Rattle.response.specs.declared.Times.{Times}
 use Rattle.project.proofs.Checklists.{refused_by}
@@ -19,7 +20,8 @@ found c =
 
 pub set_responses-requires : goal.set_responses-requires
 set_responses-requires c =
-    found_ready 16 c.args.file.now c.args.area.now c.args.list.now c.args.penalty (found (goal.at.set_responses-requires c).In_ok-plan)
+    let ready = found_ready 16 c.args.file.now c.args.area.now c.args.list.now c.args.penalty (found (goal.at.set_responses-requires c).In_ok-plan) in
+    (ready.0, omega (arith, ready.1))
 
 pub returns-in_err-plan : goal.returns-in_err-plan
 returns-in_err-plan c =
@@ -28,5 +30,6 @@ returns-in_err-plan c =
 
 pub returns : goal.returns
 returns c =
-    let set = found_list 16 c.args.file.now c.args.area.now c.args.list.now c.args.penalty (found (goal.at.returns c).In_ok-plan) c.set_responses.ensures in
+    let ready = found_ready 16 c.args.file.now c.args.area.now c.args.list.now c.args.penalty (found (goal.at.returns c).In_ok-plan) in
+    let set = found_list 16 c.args.file.now c.args.area.now c.args.list.now c.args.penalty (found (goal.at.returns c).In_ok-plan) (rw ready.1 at c.set_responses.ensures) in
     (set.0, set.1, c.planned.ensures.1)

@@ -17,5 +17,5 @@ loop-i-preserved c =
 
 pub returns : goal.returns
 returns c =
-    let end : c.loop-i.i ≡ length c.args.list.now = omega arith in
+    let end : c.loop-i.i ≡ c.args.plan.now.times.count = omega arith in
     c.loop-i.invariant ∙ ap (λ (n : ℕ). with_responses (plan_response c.args.plan.now) 0 n c.args.list.now) end

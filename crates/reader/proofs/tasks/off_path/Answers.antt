@@ -3,11 +3,7 @@ use mathlib.Core.Path.{sym, ap, ◌∙◌}
 use mathlib.Core.Bool.{not}
 use Rattle.model.specs.OnPath.{all_on_path}
 use Rattle.body.specs.Decode.{decode, task_of}
-use Rattle.reader.proofs.TaskLaws.{broken_on_path}
 use Rattle.reader.proofs.tasks.off_path.Goals as goal
 
 pub returns-in-Some : goal.returns-in-Some
 returns-in-Some c = ap not (c.on_paths.ensures ∙ ap (λ s. all_on_path (task_of (decode s))) c.in-Some.ensures.same)
-
-pub returns-in-None : goal.returns-in-None
-returns-in-None c = broken_on_path c.args.body.now (sym c.in-None.ensures.kept)
