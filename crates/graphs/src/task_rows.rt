@@ -14,8 +14,8 @@ ghost use Rattle.graphs.specs.TaskRows.{KindRows, AreaRows, Both, Sizes, all_siz
 
 use crate::prepare::prepare;
 use body::jumps::jumps;
-use body::predecessors::predecessors;
 use body::kept_walk;
+use body::predecessors::predecessors;
 use cache::blocks::CacheShape;
 use cache::row::Row;
 use gather::gather::{BlockGraph, Full, gather};

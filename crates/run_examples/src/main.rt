@@ -10,37 +10,14 @@ use example_files::{
     APART, E, FIGURE_1_AND_BLOCK, FIGURE_1_AND_FORK, FIVE_ARMS, SHARED_BOTH,
     SIX_FORKS_OF_TASKS_2_AND_3, TWICE, with_byte,
 };
-use project::answers::{Filling, Writing};
-use replay::{Replaying, replay};
+use replay::{Counted, replay};
 use table::table;
 
-// Prints the text. A failed write is passed over: what the program prints is compared as a whole.
-fn print(rt: &impl Print, text: &str) {
-    let _ = rt.print(text);
-}
-
-// A number after its name.
-fn print_named(rt: &impl Print, name: &str, x: u64) {
-    print(rt, name);
-    let _ = rt.print(x);
-}
-
-// A number of two bytes after its name.
-fn print_short(rt: &impl Print, name: &str, x: u16) {
-    print_named(rt, name, x as u64);
-}
-
-fn print_refusal(rt: &impl Print, check: u8, task: u8) {
-    print_named(rt, "refused ", check as u64);
-    print_named(rt, " task ", task as u64);
-}
+// A failed write is passed over, here and below: what the program prints is compared as a whole.
 
 // The file's name and the two tasks, the preempted one first.
 fn print_asked(rt: &impl Print, name: &str, i: usize, j: usize) {
-    print(rt, name);
-    print_named(rt, ", ", i as u64);
-    print_named(rt, " by ", j as u64);
-    print(rt, ": ");
+    let _ = print!(rt; "{name}, {i} by {j}: ");
 }
 
 // The pair number of i preempted by j, if the table can be filled. What the lists hold afterwards is left open.
@@ -55,47 +32,36 @@ fn print_pair_number(
     requires { (i < 8) × (j < 8) × (length numbers.old ≡ 64) }
     ensures { length area.new ≡ length area.old }
 {
-    match table(file, area, numbers) {
-        Filling::Filled => {
-            print_short(rt, "pair number ", numbers[8 * i + j]);
-        }
-        Filling::Refused { check, task } => {
-            print(rt, "Table ");
-            print_refusal(rt, check, task);
-        }
-    }
+    let _ = match table(file, area, numbers) {
+        Ok(()) => print!(rt; "pair number {}", numbers[8 * i + j]),
+        Err(refused) => print!(rt; "Table {refused}"),
+    };
 }
 
 // U, D and the lost hits of the sheet's run.
 fn print_costs(rt: &impl Print, file: &[u8], sheet: &[u16]) {
-    match replay(file, sheet) {
-        Replaying::Counted {
-            undisturbed,
-            disturbed,
-            lost,
-        } => {
-            print_named(rt, ", U = ", undisturbed as u64);
-            print_named(rt, ", D = ", disturbed as u64);
-            print_named(rt, ", lost hits = ", lost as u64);
-        }
-        Replaying::Refused { check, task } => {
-            print(rt, ", Replay ");
-            print_refusal(rt, check, task);
-        }
-    }
-    print(rt, "\n");
+    let _ = match replay(file, sheet) {
+        Ok(
+            Counted {
+                undisturbed,
+                disturbed,
+                lost,
+            },
+        ) => println!(rt; ", U = {undisturbed}, D = {disturbed}, lost hits = {lost}"),
+        Err(refused) => println!(rt; ", Replay {refused}"),
+    };
 }
 
 // The number at a place of the sheet, after its name, if the sheet has that place.
 fn print_place(rt: &impl Print, name: &str, sheet: &[u16], at: usize) {
-    if at < sheet.len() {
-        print_short(rt, name, sheet[at]);
+    if let Some(x) = sheet.get(at) {
+        let _ = print!(rt; "{name}{x}");
     }
 }
 
 // The number of preemptions, the references done at the first and the length of its path, after a path of so many blocks.
 fn print_preemption(rt: &impl Print, sheet: &[u16], blocks: u16) {
-    let count = 2 + blocks as usize;
+    let count = 2 + usize::from(blocks);
     print_place(rt, ", preemptions ", sheet, count);
     print_place(rt, ", references done ", sheet, count + 2);
     print_place(rt, ", preempting path length ", sheet, count + 4);
@@ -103,30 +69,23 @@ fn print_preemption(rt: &impl Print, sheet: &[u16], blocks: u16) {
 
 // The lengths of the sheet's paths, and its number of preemptions.
 fn print_lengths(rt: &impl Print, sheet: &[u16]) {
-    if 1 < sheet.len() {
-        print_short(rt, "  path length ", sheet[1]);
-        print_preemption(rt, sheet, sheet[1]);
+    if let Some(&blocks) = sheet.get(1) {
+        let _ = print!(rt; "  path length {blocks}");
+        print_preemption(rt, sheet, blocks);
     }
-    print(rt, "\n");
+    let _ = println!(rt; "");
 }
 
 // The length of the sheet, and all numbers of a short one.
 fn print_sheet(rt: &impl Print, sheet: &[u16]) {
-    print_named(rt, "  sheet of ", sheet.len() as u64);
+    let _ = print!(rt; "  sheet of {}", sheet.len());
     if sheet.len() <= 32 {
-        print(rt, ":");
-        for at in 0..sheet.len() {
-            print_short(rt, " ", sheet[at]);
+        let _ = print!(rt; ":");
+        for x in sheet {
+            let _ = print!(rt; " {x}");
         }
     }
-    print(rt, "\n");
-}
-
-// The refusal in place of a run.
-fn print_no_run(rt: &impl Print, check: u8, task: u8) {
-    print(rt, ", ");
-    print_refusal(rt, check, task);
-    print(rt, "\n");
+    let _ = println!(rt; "");
 }
 
 // The run that costs most in i preempted by j. What the lists hold afterwards is left open.
@@ -142,14 +101,14 @@ fn print_run(
     ensures { (length first.new ≡ length first.old) × (length second.new ≡ length second.old) }
 {
     match costliest_run(file, i, j, first, second, sheet) {
-        Writing::Written { length } => {
+        Ok(length) => {
             let written = &sheet[0..length];
             print_costs(rt, file, written);
             print_lengths(rt, written);
             print_sheet(rt, written);
         }
-        Writing::Refused { check, task } => {
-            print_no_run(rt, check, task);
+        Err(refused) => {
+            let _ = println!(rt; ", {refused}");
         }
     }
 }
@@ -169,15 +128,8 @@ fn show(rt: &impl Print, name: &str, file: &[u8], i: usize, j: usize)
 
 // How many of the numbers still are the 7 that they were filled with.
 fn print_kept(rt: &impl Print, numbers: &[u16]) {
-    let mut kept: u64 = 0;
-    for at in 0..numbers.len() {
-        if numbers[at] == 7 {
-            kept += 1;
-        }
-    }
-    print_named(rt, ": ", kept);
-    print_named(rt, " of ", numbers.len() as u64);
-    print(rt, " numbers kept\n");
+    let kept = numbers.iter().filter(|x| **x == 7).count();
+    let _ = println!(rt; ": {kept} of {} numbers kept", numbers.len());
 }
 
 // What the call answers with these areas and this sheet, filled with 7, and how many numbers of the sheet it keeps: all if it refuses, and else those
@@ -194,14 +146,12 @@ fn print_answer(
     ensures { (length first.new ≡ length first.old) × (length second.new ≡ length second.old) }
 {
     match costliest_run(file, i, j, first, second, sheet) {
-        Writing::Written { length } => {
-            print_named(rt, "sheet of ", length as u64);
-            print(rt, "; after it");
+        Ok(length) => {
+            let _ = print!(rt; "sheet of {length}; after it");
             print_kept(rt, &sheet[length..]);
         }
-        Writing::Refused { check, task } => {
-            print_refusal(rt, check, task);
-            print(rt, "; sheet");
+        Err(refused) => {
+            let _ = print!(rt; "{refused}; sheet");
             print_kept(rt, sheet);
         }
     }

@@ -7,70 +7,47 @@ use example_files::{
     E, END_WITH_SUCCESSORS, FIGURE_1, FIVE_FORKS, LOOP_WITH_FORK, ONE_CACHE_BLOCK, SIX_FORKS,
     SIXTEEN_CACHE_BLOCKS, WITHOUT_REFERENCES,
 };
-use project::answers::Filling;
 use states::states::states;
 
-// Prints the text. A failed write is passed over: what the program prints is compared as a whole.
-fn print(rt: &impl Print, text: &str) {
-    let _ = rt.print(text);
-}
-
-fn print_number(rt: &impl Print, x: u64) {
-    let _ = rt.print(x);
-}
+// A failed write is passed over, here and below: what the program prints is compared as a whole.
 
 // What one place of a row holds.
 fn print_place(rt: &impl Print, m: u16) {
-    if m == 65535 {
-        print(rt, "-");
+    let _ = if m == 65535 {
+        print!(rt; " -")
     } else {
-        print_number(rt, m as u64);
-    }
+        print!(rt; " {m}")
+    };
 }
 
 // The first n places of a row.
 fn print_row(rt: &impl Print, kind: &str, places: &[u16], n: usize) {
-    print(rt, "    ");
-    print(rt, kind);
-    for c in 0..places.len() {
-        if c < n {
-            print(rt, " ");
-            print_place(rt, places[c]);
-        }
+    let _ = print!(rt; "    {kind}");
+    for &m in &places[..n.min(places.len())] {
+        print_place(rt, m);
     }
-    print(rt, "\n");
+    let _ = println!(rt; "");
 }
 
 // The rows of one kind of a block.
 fn show_rows(rt: &impl Print, area: &[u16], kind: &str, live: bool, block: usize, n: usize) {
     for number in 0..32 {
         let places = row(area, live, block, number);
-        if places.len() != 0 {
+        if !places.is_empty() {
             print_row(rt, kind, places, n);
         }
     }
 }
 
-// How many rows of one kind a block has.
-fn show_count(rt: &impl Print, area: &[u16], live: bool, block: usize) {
-    let mut count: u64 = 0;
-    for number in 0..32 {
-        if row(area, live, block, number).len() != 0 {
-            count = number as u64 + 1;
-        }
-    }
-    print_number(rt, count);
-}
-
 // How many rows of each kind a block has.
 fn show_counts(rt: &impl Print, area: &[u16], block: usize) {
-    print(rt, "  block ");
-    print_number(rt, block as u64);
-    print(rt, ": reaching ");
-    show_count(rt, area, false, block);
-    print(rt, ", live ");
-    show_count(rt, area, true, block);
-    print(rt, "\n");
+    let reaching = (0..32)
+        .filter(|&k| !row(area, false, block, k).is_empty())
+        .count();
+    let live = (0..32)
+        .filter(|&k| !row(area, true, block, k).is_empty())
+        .count();
+    let _ = println!(rt; "  block {block}: reaching {reaching}, live {live}");
 }
 
 // The states of a block, with the first n places of each row, or only how many they are.
@@ -88,25 +65,14 @@ fn show_blocks(rt: &impl Print, area: &[u16], blocks: usize, n: usize) {
     }
 }
 
-fn print_refusal(rt: &impl Print, check: u8, task: u8) {
-    print(rt, "  refused ");
-    print_number(rt, check as u64);
-    print(rt, " task ");
-    print_number(rt, task as u64);
-    print(rt, "\n");
-}
-
 // The states of the first blocks of a task.
 fn show(rt: &impl Print, name: &str, file: &[u8], task: usize, blocks: usize, n: usize) {
     let mut area = [0u16; AREA_LENGTH];
-    print(rt, name);
-    print(rt, "\n");
+    let _ = println!(rt; "{name}");
     match states(file, task, &mut area) {
-        Filling::Refused { check, task: named } => {
-            print_refusal(rt, check, named);
-        }
-        Filling::Filled => {
-            show_blocks(rt, &area, blocks, n);
+        Ok(()) => show_blocks(rt, &area, blocks, n),
+        Err(refused) => {
+            let _ = println!(rt; "  {refused}");
         }
     }
 }
