@@ -17,6 +17,7 @@ fn read_input(input: &mut impl Read, room: &mut [u8]) -> io::Result<usize>
     ensures { Within result (length room.old) }
 {
     let mut done = 0;
+    // By `while`: how far the next part goes is up to the system.
     while done < room.len() {
         let n = input.read(&mut room[done..])?;
         if n == 0 {

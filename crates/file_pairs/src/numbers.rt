@@ -70,6 +70,7 @@ pub fn find_numbers(
     ensures { (length area.new ≡ area_length ends.now.w) × (result ≡ first_full (shaped ends.now.w shape) 0 (tasks_of file.now))
         × (result ≡ Ok tt → numbers.new ≡ table_of file.now) }
 {
+    // By number: task i has a row of the numbers, and a body that is found by its number.
     for i in 0..ends.tasks {
         numbers[9 * i] = 32;
         if task_numbers(

@@ -96,6 +96,7 @@ impl Higher {
         ensures { result ≡ met (answer (demand c self.now.periods self.now.costs self.now.count) d) }
     {
         let mut r = self.earliest(c);
+        // By `while`: the next R is told by this one.
         while r <= d {
             let next = self.asked(c, r);
             if next == r {
@@ -127,6 +128,7 @@ fn higher_than(times: &Times, numbers: &[u16], penalty: u64, i: usize) -> Higher
         × ((j : ℕ) → j < i → get_or result.costs j 0 ≡ cost (λ k. get_or times.now.c k 0) (table_pair numbers.now) penalty i j) }
 {
     let mut costs = [0u64; 8];
+    // By number: the cost of a task is of its time and of a column of numbers.
     for j in 0..i {
         costs[j] = times.c[j] + penalty * pairs_by(numbers, i, j);
     }

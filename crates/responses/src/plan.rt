@@ -44,6 +44,7 @@ fn are_wrong(times: &Times, tasks: usize) -> bool
     requires { tasks ≤ 8 }
     ensures { result ≡ any tasks (wrong_at times.now) }
 {
+    // By number: a task has a time in each of three lists.
     for i in 0..tasks {
         if is_wrong(times, i) {
             return true;

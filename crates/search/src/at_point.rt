@@ -39,6 +39,7 @@ fn over_live(old: Found, point: Point, row: &[u16], live: &RowList, sets: &[u32]
     ensures { Raised (OfLive point row.now (listed live.now) sets.now) old result }
 {
     let mut found = old;
+    // By number: the live row's is part of what is found.
     for l in 0..live.count {
         let set = useful(row, live.row(l));
         found = over_ends(found, point, l, set, sets);

@@ -21,6 +21,7 @@ fn refer_first(references: &[u8], d: usize, shape: CacheShape, row: &mut [u16])
     requires { (d ≤ length references.now / 2) × Holds (length row.old) shape }
     ensures { row.new ≡ with_references (shaped (length row.old) shape) row.old (take d (numbers references.now)) }
 {
+    // By number: each reference is two bytes.
     for i in 0..d {
         refer_row(references, i, shape, row);
     }
@@ -53,6 +54,7 @@ fn over_reaching(
         (listed reaching.now) (listed rows.now.live) (listed rows.now.ends)) old result }
 {
     let mut found = old;
+    // By number: the reaching row's is part of the point.
     for k in 0..reaching.count {
         let point = Point {
             block: block.number,
@@ -80,6 +82,7 @@ fn over_predecessors(
 {
     let set = block.before;
     let mut found = old;
+    // By number: the number is the bit that is asked, and part of the point.
     for a in 0..block.blocks {
         if set & (1 << a) != 0 {
             found = over_reaching(found, block, done, a, &reaching.of_block(a), rows);

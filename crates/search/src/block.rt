@@ -69,6 +69,7 @@ pub fn over_block(old: Found, block: &Block, reaching: &Held, rows: &PointRows) 
     let mut left = [0u16; 544];
     rests(block.references, block.shape, block.w, &mut left[0..room]);
     let mut found = old;
+    // By number: how many references are done is part of the point.
     for d in fewest_done(all)..all + 1 {
         found = over_point(found, block, d, &left[0..room], reaching, rows);
     }

@@ -80,6 +80,7 @@ pub fn search(body: &[u8], shape: CacheShape, reaching: &Held, live: &Held, ends
     let before = predecessors(jumps(&walked), blocks);
     let unmasked = unmasked_blocks(body);
     let mut found = NONE_FOUND;
+    // By number: the number is the bit that is asked, and part of the point.
     for b in 0..blocks {
         if unmasked & (1 << b) != 0 {
             let block = Block {

@@ -31,6 +31,7 @@ fn print_row(rt: &impl Print, kind: &str, places: &[u16], n: usize) {
 
 // The rows of one kind of a block.
 fn show_rows(rt: &impl Print, area: &[u16], kind: &str, live: bool, block: usize, n: usize) {
+    // By number: `row` asks for a row by its number.
     for number in 0..32 {
         let places = row(area, live, block, number);
         if !places.is_empty() {
@@ -60,6 +61,7 @@ fn show_block(rt: &impl Print, area: &[u16], block: usize, n: usize) {
 }
 
 fn show_blocks(rt: &impl Print, area: &[u16], blocks: usize, n: usize) {
+    // By number: the number of a block is printed.
     for block in 0..blocks {
         show_block(rt, area, block, n);
     }

@@ -56,6 +56,7 @@ fn meet_done(row: &mut [u16], points: &Points, numbers: &mut [u16])
     let w = points.block.w;
     let count = references.len() / 2;
     let mut rising = 0 < count;
+    // By number: each reference is two bytes, and has a part of `rests`.
     for i in 0..count {
         refer_row(references, i, shape, row);
         let top = hits_next(references, i + 1, shape, row);
@@ -101,6 +102,7 @@ fn meet_rows(list: &RowList, points: &Points, numbers: &mut [u16])
     ensures { Met (block_most (cache_of points.now.block) (references_of points.now.block) (live_rows points.now.lives) (listed list.now))
         points.now.ends points.now.ends.tasks numbers.old numbers.new }
 {
+    // By number: `row` reads a row where it lies; w may be 0, and there are no chunks of no number.
     for k in 0..list.count {
         meet_before(list.row(k), points, numbers);
     }
@@ -114,6 +116,7 @@ fn meet_entering(reaching: &Held, points: &Points, numbers: &mut [u16])
         points.now.ends points.now.ends.tasks numbers.old numbers.new }
 {
     let set = points.block.before;
+    // By number: the number is the bit that is asked.
     for p in 0..points.block.blocks {
         if set & (1 << p) != 0 {
             meet_rows(&reaching.of_block(p), points, numbers);
@@ -185,6 +188,7 @@ pub fn meet_task(
     let starts = walked.starts;
     let before = predecessors(jumps(&walked), blocks);
     let unmasked = unmasked_blocks(body);
+    // By number: the number is the bit that is asked, and the block has a set and a start.
     for b in 0..blocks {
         if unmasked & (1 << b) != 0 {
             let block = Block {

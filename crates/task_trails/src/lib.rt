@@ -16,7 +16,7 @@ use cache::blocks::CacheShape;
 use graphs::task_rows::{NO_ROWS, graphs};
 use trails::gather_trails::gather_trails;
 
-// The rows that blocks hand on to their successors, as `gather_reaching` gathers them, and their trails. Left open is what `gather_trails`
+// The rows that blocks hand on to their successors, as `gather` gathers the `reaching_graph` of graphs, and their trails. Left open is what `gather_trails`
 // leaves open.
 fn reaching_trails(
     blocks: usize,
@@ -44,7 +44,7 @@ fn reaching_trails(
     )
 }
 
-// The rows that blocks hand on to their predecessors, as `gather_live` gathers them, and their trails. Left open is what `gather_trails`
+// The rows that blocks hand on to their predecessors, as `gather` gathers the `live_graph` of graphs, and their trails. Left open is what `gather_trails`
 // leaves open.
 fn live_trails(
     blocks: usize,

@@ -33,6 +33,7 @@ pub fn table_text(n: u8, t: u8, numbers: &[u16], out: &mut [u8]) -> usize
 {
     let tasks = byte_number(t);
     let mut next = put_two(out, b"cache ", byte_number(n), b" tasks ", tasks);
+    // By number: the number is printed.
     for i in 0..tasks {
         next = put_row(out, next, i, tasks, numbers);
     }

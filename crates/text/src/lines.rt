@@ -55,6 +55,7 @@ pub fn put_row(out: &mut [u8], at: usize, i: u16, t: u16, numbers: &[u16]) -> us
     ensures { Placed out.old at (row_text numbers.now i t 0) out.new result }
 {
     let mut next = at;
+    // By number: the number is printed.
     for j in 0..t {
         next = put_entry(out, next, i, j, numbers);
     }

@@ -17,6 +17,7 @@ fn note(from: usize, before: [usize; 24], counts: &[usize], trails: &mut [u16])
 {
     let named = from as u16;
     let long = trails[PLACES + from] + 1;
+    // By number: the number of a block tells the place of its trails.
     for s in 0..24 {
         let k = before[s];
         if k < counts[s] {
@@ -51,6 +52,7 @@ pub fn gather_trails(
     trails[PLACES + 32 * first] = 1;
     let mut done = [0usize; 24];
     let mut b = first;
+    // By `while`: which block comes next is told by the rows that were appended.
     while b < 24 {
         let k = done[b];
         let before = *counts;
