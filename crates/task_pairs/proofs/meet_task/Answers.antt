@@ -1,22 +1,17 @@
 -- `meet_task` meets its contract: after b turns the points of the unmasked ones among the first b blocks are met. Assumes nothing.
-use mathlib.Core.Path.{◌≡◌, refl, sym, ap, ap₂, ◌∙◌}
-use mathlib.Core.List.{List}
+use mathlib.Core.Path.{◌≡◌, refl, sym, ap, ◌∙◌}
 use Prim.Native.Nat.{ℕ, ◌+◌, ◌<◌}
 use native.Mathlib.Omega.{arith}
 use lib.ListN.{length, get_or}
-use Rattle.cache.specs.References.{numbers as references_in}
 use Rattle.cache.specs.Sets.{in_set}
 use Rattle.cache.specs.Shape.{shaped}
 use Rattle.cache.proofs.Members.{in_word, out_word}
 use Rattle.model.specs.Tasks.{Task, block}
 use Rattle.body.specs.Decode.{decode, task_of}
-use Rattle.body.specs.Parts.{references_at}
-use Rattle.body.specs.Turned.{turned}
-use Rattle.body.proofs.Decoded.{few_bytes, blocks-real}
 use Rattle.body.proofs.JumpLaws.{WalkedTask, kept_task, in_unmasked}
-use Rattle.graphs.proofs.Listed.{block-real}
 use Rattle.points.specs.Points.{predecessors_of}
 use Rattle.pairs.specs.Pairs.{Met}
+use Rattle.block_rows.proofs.Walks.{predecessors-are, references-are, block_parts, block_real}
 use Rattle.block_rows.specs.BlockRows.{rows_by}
 use Rattle.task_pairs.specs.TaskPairs.{task_most}
 use Rattle.task_pairs.proofs.Meetings.{met_unmasked, met_masked}
@@ -29,14 +24,7 @@ facts c = kept_task c.kept_walk-walked.result c.kept_walk-walked.ensures
 
 -- the predecessors of the block b
 before-is : (c : After-predecessors-before) (b : ℕ) → get_or c.predecessors-before.result b 0 ≡ predecessors_of (task_of (decode c.args.body.now)) b
-before-is c b =
-    let f = facts (goal.at.After-predecessors-before c).After-kept_walk-walked in
-    ap (λ (l : List ℕ). get_or l b 0) (c.predecessors-before.ensures ∙ ap₂ turned (rw c.kept_walk-walked.ensures at c.jumps.ensures) (f.long ∙ ap length (sym f.same)))
-
--- the references of block b
-references-are : (s : List ℕ) (n : ℕ) (starts : List ℕ) (f : WalkedTask s n starts) (b : ℕ) (r : List ℕ) → b < n → r ≡ references_at (get_or starts b 0) s
-    → references_in r ≡ (block f.its b).references
-references-are s n starts f b r low e = ap references_in e ∙ (f.parts b (omega (arith, f.long, low))).references
+before-is c = predecessors-are _ _ _ (facts (goal.at.After-predecessors-before c).After-kept_walk-walked) _ (rw c.kept_walk-walked.ensures at c.jumps.ensures) _ c.predecessors-before.ensures
 
 pub predecessors-before-requires : goal.predecessors-before-requires
 predecessors-before-requires c = let f = facts (goal.at.predecessors-before-requires c).After-kept_walk-walked in omega (arith, f.long, f.bounds.few)
@@ -46,12 +34,9 @@ references-requires c = let f = facts (goal.at.references-requires c).After-kept
 
 pub invariant_of-block : goal.invariant_of-block
 invariant_of-block c =
-    let f = facts (goal.at.invariant_of-block c).After-kept_walk-walked in
-    let b = c.loop-b.b in
-    let are = references-are _ _ _ f b _ c.loop-b-test.true c.references.ensures in
-    record {
-      is = record { holds = c.requires.1; inside = omega (arith, f.long, f.bounds.few); few = few_bytes f.its f.bounds b c.references.result.now are };
-      real = rw are (block-real f.its (blocks-real (length f.its) f.its f.bounds.each) b);
+    let f = facts (goal.at.invariant_of-block c).After-kept_walk-walked in record {
+      is = block_parts _ _ _ f c.loop-b.b _ c.loop-b-test.true c.references.ensures c.requires.1;
+      real = block_real _ _ _ f c.loop-b.b _ c.loop-b-test.true c.references.ensures;
     }
 
 pub loop-b-preserved : goal.loop-b-preserved
