@@ -38,13 +38,13 @@ pub fn chunk_at<const N: usize>(part: &[u16], at: usize) -> [u16; N]
     row
 }
 
-// Sixteen numbers are stored from `at` on.
-pub fn store_chunk(part: &mut [u16], at: usize, row: [u16; 16])
-    requires { at + 16 ≤ length part.old }
-    ensures { part.new ≡ put part.old at row }
+// N numbers are stored from `at` on.
+pub fn store_chunk<const N: usize>(part: &mut [u16], at: usize, row: [u16; N])
+    requires { at + N ≤ length part.old }
+    ensures { part.new ≡ put part.old at row.entry }
 {
     // By index, as in `chunk_at`.
-    for i in 0..16 {
+    for i in 0..N {
         part[at + i] = row[i];
     }
 }
@@ -62,12 +62,24 @@ pub fn overlay_row(row: &[u16], over: &[u16], out: &mut [u16])
     }
 }
 
-// `out` becomes the row.
+// `out` becomes the N numbers of the row.
+fn copy_wide<const N: usize>(row: &[u16], out: &mut [u16])
+    requires { (length row.now ≡ N) × (length out.old ≡ N) }
+    ensures { out.new ≡ row.now }
+{
+    store_chunk(out, 0, chunk_at::<N>(row, 0));
+}
+
+// `out` becomes the row. A row of known width stays in registers on its way.
 pub fn copy_row(row: &[u16], out: &mut [u16])
     requires { (length row.now % 16 ≡ 0) × (length out.old ≡ length row.now) }
     ensures { out.new ≡ row.now }
 {
-    out.copy_from_slice(row);
+    match row.len() {
+        16 => copy_wide::<16>(row, out),
+        32 => copy_wide::<32>(row, out),
+        _ => out.copy_from_slice(row),
+    }
 }
 
 // Whether the N numbers are among the first `count` rows of N numbers.

@@ -9,22 +9,40 @@ ghost use Rattle.rows.specs.Append.{put};
 ghost use Rattle.sort.specs.Sorting.{inserted_first, block_part};
 
 use cache::row::Row;
-use rows::copy_row;
+use rows::{chunk_at, copy_row, store_chunk};
 
 // Whether a row stands before another in dictionary order.
 pub fn stands_before(row: &[u16], other: &[u16]) -> bool
     requires { length other.now ≡ length row.now }
     ensures { result ≡ before row.now other.now }
 {
-    row < other
+    // Place by place until two numbers differ: the compiled code of `<` compares each place twice.
+    for (x, y) in row.iter().zip(other) {
+        if x != y {
+            return x < y;
+        }
+    }
+    false
 }
 
-// The row after the one at `at` is copied over that one.
+// The N numbers after the N numbers at `at` are copied over these.
+fn move_wide<const N: usize>(rows: &mut [u16], at: usize)
+    requires { at + N + N ≤ length rows.old }
+    ensures { rows.new ≡ put rows.old at (take N (drop (at + N) rows.old)) }
+{
+    store_chunk(rows, at, chunk_at::<N>(rows, at + N));
+}
+
+// The row after the one at `at` is copied over that one. A row of known width stays in registers on its way.
 fn move_row(rows: &mut [u16], at: usize, w: usize)
     requires { (w % 16 ≡ 0) × (at + w + w ≤ length rows.old) }
     ensures { rows.new ≡ put rows.old at (take w (drop (at + w) rows.old)) }
 {
-    rows.copy_within(at + w..at + w + w, at);
+    match w {
+        16 => move_wide::<16>(rows, at),
+        32 => move_wide::<32>(rows, at),
+        _ => rows.copy_within(at + w..at + w + w, at),
+    }
 }
 
 // The row takes the place of the first row and is put in order among the others, which rise; each row that stands before it moves one

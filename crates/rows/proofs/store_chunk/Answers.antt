@@ -10,13 +10,13 @@ use Rattle.rows.proofs.Parts.{pasted}
 use Rattle.rows.proofs.store_chunk.Goals as goal
 
 pub loop-i-init : goal.loop-i-init
-loop-i-init c = (omega arith, refl, paste-zero c.args.part.now c.args.at c.args.row)
+loop-i-init g c = (omega arith, refl, paste-zero c.args.part.now c.args.at c.args.row)
 
 pub loop-i-preserved : goal.loop-i-preserved
-loop-i-preserved c =
+loop-i-preserved g c =
     let at = c.loop-i in
     let args = c.args in
-    let sixteen : length args.row ≡ 16 = search rules in (
+    let wide : length args.row ≡ g.row.N = search rules in (
       omega arith,
       simp length-set (omega arith),
       ap (λ l. set l (args.at + at.i) (get_or args.row at.i 0)) at.invariant.2
@@ -24,7 +24,7 @@ loop-i-preserved c =
     )
 
 pub returns : goal.returns
-returns c =
+returns g c =
     let args = c.args in
-    let sixteen : length args.row ≡ 16 = search rules in
+    let wide : length args.row ≡ g.row.N = search rules in
     pasted args.part.now args.at args.row c.loop-i.i (omega arith) c.loop-i.invariant.2

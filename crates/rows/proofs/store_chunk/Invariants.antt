@@ -6,4 +6,4 @@ use lib.Seq.{paste}
 use Rattle.rows.proofs.store_chunk.Given as goal
 
 abbrev pub invariant-loop-i : goal.invariant-loop-i
-invariant-loop-i l = (l.i ≤ 16) × (length l.part ≡ length l.initial.part) × (l.part ≡ paste l.initial.part l.at l.row l.i)
+invariant-loop-i g l = (l.i ≤ g.row.N) × (length l.part ≡ length l.initial.part) × (l.part ≡ paste l.initial.part l.at l.row l.i)
