@@ -139,6 +139,8 @@ pub fn next_waiting(counts: &[usize], done: &[usize], last: usize) -> usize
 
 // The rows of each block and their counts; an error where some block has more than 32 rows.
 // Left open are the order of a block's rows and what stands after them, and after an error all rows and counts.
+// It becomes part of its callers, so that the compiled code knows the width of the rows of the graph that they make.
+#[inline(always)]
 pub fn gather(graph: BlockGraph, rows: &mut [u16], counts: &mut [usize]) -> Result<(), Full>
     requires { GraphInput graph rows.old counts.old }
     ensures { GatheredAs (graph_meant graph.entry) rows.new counts.new (is_err result) }

@@ -1,4 +1,4 @@
--- The states of a task in memory, and check 11 of a task. Definitions only.
+-- The states of a task in memory, and check 11 of a task. Definitions, and that gathering all rows keeps lengths.
 use Rattle.std.specs.Prelude.{◌≡◌, Bool, true, false, ◌||◌, List, ℕ, ◌<◌, length, take, drop}
 use Rattle.cache.specs.Cache.{Cache}
 use Rattle.model.specs.Tasks.{Task}

@@ -88,6 +88,8 @@ impl Gathers for AllRows {
 
     ghost sizes = { all_sizes };
 
+    // Part of its callers, as `gather` is.
+    #[inline(always)]
     fn along(graph: BlockGraph, rows: &mut [u16], counts: &mut [usize]) -> Result<(), Full> {
         gather(graph, rows, counts)
     }

@@ -1,4 +1,5 @@
--- The rows of a task in memory, for Table: rows that stand for all states of each block, and check 11 of Point 9. Definitions only.
+-- The rows of a task in memory, for Table: rows that stand for all states of each block, and check 11 of Point 9. Definitions, and that what is
+-- kept has the lengths of what is gathered.
 use mathlib.Core.Logic.{inl, inr}
 use Rattle.std.specs.Prelude.{◌≡◌, ◌⊎◌, Bool, false, List, ℕ, ◌<◌, length, take, drop}
 use Rattle.cache.specs.Cache.{Cache}
