@@ -15,24 +15,26 @@ use Rattle.project.specs.Checklist.{one, refusal, Checked, and_then, unless, no_
 use Rattle.project.specs.Reading.{outside, file_checks}
 use Rattle.project.specs.Tasks.{file_pair}
 use Rattle.project.proofs.Accepted.{Passing, passing, then_passed, unless-passed, or_false_left, or_false_right}
-use Rattle.project.proofs.Checklists.{answered_ok, answered_err, then_none, verdict_append}
+use Rattle.project.proofs.Checklists.{then_none, verdict_append}
 use Rattle.file_pairs.specs.FilePairs.{table_of}
 use Rattle.table.specs.Table.{full_checks, table_check, table_answer, table_after}
-use Rattle.table.proofs.Entries.{passed-file, table_place}
+use Rattle.table.proofs.Entries.{refused_failed, passed-file, table_place}
 use Rattle.response.specs.declared.Record.{Record}
 use Rattle.response.specs.declared.Times.{Times}
 use Rattle.response.specs.Times.{record_of, no_times, times_response, record_response, TaskTimes, table_pair, with_responses}
 use Rattle.response.proofs.ResponseLaws.{same_response}
 use Rattle.responses.specs.declared.plan.Plan.{Plan}
+use Rattle.responses.specs.declared.plan.Unplanned.{Unplanned}
 use Rattle.responses.specs.Responses.{largest_time, Fault1, test1, Fault21, any, wrong_record, test21, response_check, response_answer, response_after}
-use Rattle.responses.specs.Plan.{times_of, wrong_at, times_test21, plan_check, plan_made, plan_of, plan_response, Ready}
+use Rattle.responses.specs.Plan.{times_of, wrong_at, times_test21, plan_check, pick_plan, plan_made, plan_of, plan_response, Ready}
 use Rattle.responses.proofs.TimesLaws.{any_cong, any_none, times_count, times_at}
 use Rattle.responses.proofs.ListLaws.{set_same}
 
 module _ (w : ℕ) (s area : List ℕ) (x : Times) (penalty : ℕ) {answer : Checked} (told : answer ≡ table_answer w s area (replicate 64 0)) where
   -- Table's refusal is the plan's
-  pub plan_refused : {r : Refusal} {plan : Result Plan Refusal} → answer ≡ Err r → plan ≡ Err r → plan ≡ plan_of w s area x penalty
-  plan_refused e q = q ∙ rw (sym told ∙ e)
+  pub plan_refused : {r : Refusal} {numbers : List ℕ} → answer ≡ Err r → numbers ≡ table_after w s area (replicate 64 0)
+      → Err (record { refusal = r; times = x; numbers = numbers }) ≡ plan_of w s area x penalty
+  plan_refused e en = rw (en, refused_failed w s area (replicate 64 0) (sym told ∙ e))
 
   module _ (e : answer ≡ Ok tt) where
     pub plan_passing : Passing 1 s
@@ -40,17 +42,36 @@ module _ (w : ℕ) (s area : List ℕ) (x : Times) (penalty : ℕ) {answer : Che
 
     -- check 21 decides
     module _ {t p : ℕ} {wrong : Bool} (et : t ≡ task_count s) (ep : p ≡ penalty) (ew : wrong ≡ times_test21 t x p) where
-      pub plan_wrong : {r : Refusal} → wrong ≡ true → r ≡ refusal WrongTimes no_task → Err r ≡ plan_of w s area x penalty
-      plan_wrong f q =
+      pub plan_wrong : {r : Refusal} {numbers : List ℕ} → wrong ≡ true → r ≡ refusal WrongTimes no_task → numbers ≡ table_after w s area (replicate 64 0)
+          → Err (record { refusal = r; times = x; numbers = numbers }) ≡ plan_of w s area x penalty
+      plan_wrong f q en =
           let test : times_test21 (task_count s) x penalty ≡ true = rw (et, ep) at (sym ew ∙ f) in
-          rw (q, sym told ∙ e, test)
+          let failed : plan_check w s area x penalty ≡ Err (refusal WrongTimes no_task) = rw (sym told ∙ e, test) in
+          rw (q, en, failed)
 
       pub plan_decided : {numbers : List ℕ} → wrong ≡ false → numbers ≡ table_after w s area (replicate 64 0)
-          → Ok (record { times = x; numbers = numbers; penalty = p }) ≡ plan_of w s area x penalty
+          → Ok (record { times = x; numbers = numbers; penalty = p; count = x.count }) ≡ plan_of w s area x penalty
       plan_decided f en =
           let test : times_test21 (task_count s) x penalty ≡ false = rw (et, ep) at (sym ew ∙ f) in
           let passed : plan_check w s area x penalty ≡ Ok tt = rw (sym told ∙ e, test) in
           rw (en, ep, passed)
+
+-- ---- what a plan tells of the checks
+
+module _ (x : Times) (numbers : List ℕ) (penalty : ℕ) where
+  plan-not-none : {plan : Plan} {none : Unplanned} → ◌≡◌ {A = Result Plan Unplanned} (Ok plan) (Err none) → ⊥
+  plan-not-none e = cc
+
+  picked_ok : (k : Checked) {plan : Plan} → pick_plan k x numbers penalty ≡ Ok plan
+      → (k ≡ Ok tt) × (record { times = x; numbers = numbers; penalty = penalty; count = x.count } ≡ plan)
+  picked_ok (Ok passed) e = (refl, cc)
+  picked_ok (Err r) e = absurd (plan-not-none (sym e))
+
+  picked_err : (k : Checked) {none : Unplanned} → pick_plan k x numbers penalty ≡ Err none → k ≡ Err none.refusal
+  picked_err (Ok passed) e = absurd (plan-not-none e)
+  picked_err (Err r) {none} e =
+      let told : ◌≡◌ {A = Unplanned} (record { refusal = r; times = x; numbers = numbers }) none = cc in
+      ap (λ (u : Unplanned). Err u.refusal) told
 
 -- ---- the plan of a list of records
 
@@ -166,13 +187,13 @@ module _ (w : ℕ) (s area : List ℕ) (xs : List Record) (penalty : ℕ) where
   -- by the plan that was found, and where none was
   module _ {plan : Plan} (found : plan_of w s area x penalty ≡ Ok plan) where
     passed : plan_check w s area x penalty ≡ Ok tt
-    passed = (answered_ok (plan_check w s area x penalty) (plan_made w s area x penalty) found).0
+    passed = (picked_ok x (table_after w s area zeros) penalty (plan_check w s area x penalty) found).0
 
     made : plan_made w s area x penalty ≡ plan
-    made = (answered_ok (plan_check w s area x penalty) (plan_made w s area x penalty) found).1
+    made = (picked_ok x (table_after w s area zeros) penalty (plan_check w s area x penalty) found).1
 
-    pub found_ready : Ready plan × (plan.times.count ≡ length xs)
-    found_ready = subst (λ (p : Plan). Ready p × (p.times.count ≡ length xs)) made (plan_ready passed)
+    pub found_ready : Ready plan × (plan.count ≡ length xs)
+    found_ready = subst (λ (p : Plan). Ready p × (p.count ≡ length xs)) made (plan_ready passed)
 
     pub found_list : {ys : List Record} → ys ≡ with_responses (plan_response plan) 0 (length xs) xs
         → (Ok tt ≡ response_answer w s area xs penalty) × (ys ≡ response_after w s area xs penalty)
@@ -181,8 +202,8 @@ module _ (w : ℕ) (s area : List ℕ) (xs : List Record) (penalty : ℕ) where
       e ∙ sym (ap (λ (p : Plan). with_responses (plan_response p) 0 (length xs) xs) made) ∙ plan_list passed,
     )
 
-  pub none_found : {r : Refusal} {answer : Checked} → plan_of w s area x penalty ≡ Err r → answer ≡ Err r
+  pub none_found : {none : Unplanned} {answer : Checked} → plan_of w s area x penalty ≡ Err none → answer ≡ Err none.refusal
       → (answer ≡ response_answer w s area xs penalty) × (xs ≡ response_after w s area xs penalty)
   none_found e q =
-      let f = answered_err (plan_check w s area x penalty) (plan_made w s area x penalty) e in
+      let f = picked_err x (table_after w s area zeros) penalty (plan_check w s area x penalty) e in
       (q ∙ sym (same_check ∙ f), plan_kept f)

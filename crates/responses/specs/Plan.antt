@@ -1,15 +1,15 @@
 -- What is to be set in a response time list, as the call decides it. Definitions only.
-use Rattle.std.specs.Prelude.{Bool, not, ◌||◌, List, [], ◌∷◌, ℕ, ◌+◌, ◌≤◌, ◌<◌, eqb, ltb, length, get_or, take, replicate, Result}
+use Rattle.std.specs.Prelude.{Bool, not, ◌||◌, List, [], ◌∷◌, ℕ, ◌+◌, ◌≤◌, ◌<◌, eqb, ltb, length, get_or, take, replicate, Result, Ok, Err}
 use Rattle.project.specs.declared.answers.Check.TheVariants.{WrongTimes}
-use Rattle.project.specs.declared.answers.Refusal.{Refusal}
 use Rattle.project.specs.File.{File, task_count}
-use Rattle.project.specs.Checklist.{Checked, and_then, unless, no_task, answered}
+use Rattle.project.specs.Checklist.{Checked, and_then, unless, no_task}
 use Rattle.rows.specs.Rows.{Area}
 use Rattle.table.specs.Table.{table_check, table_after}
 use Rattle.response.specs.declared.Record.{Record}
 use Rattle.response.specs.declared.Times.{Times}
 use Rattle.response.specs.Times.{no_times, timed, times_response, TaskTimes, table_pair}
 use Rattle.responses.specs.declared.plan.Plan.{Plan}
+use Rattle.responses.specs.declared.plan.Unplanned.{Unplanned}
 use Rattle.responses.specs.Responses.{largest_penalty, wrong, any}
 
 -- ---- the times of a list
@@ -36,12 +36,17 @@ times_test21 t x penalty = not (eqb x.count t) || (ltb largest_penalty penalty |
 abbrev pub plan_check : ℕ → File → Area → Times → ℕ → Checked
 plan_check w s area x penalty = and_then (table_check w s area (replicate 64 0)) (unless WrongTimes no_task (times_test21 (task_count s) x penalty))
 
+-- what is told: the plan where the checks pass; no record is set where one fails, "any refusal keeps the list"
+abbrev pub pick_plan : Checked → Times → List ℕ → ℕ → Result Plan Unplanned
+pick_plan (Ok passed) x numbers penalty = Ok (record { times = x; numbers = numbers; penalty = penalty; count = x.count })
+pick_plan (Err r) x numbers penalty = Err (record { refusal = r; times = x; numbers = numbers })
+
 -- what is to be set where the checks pass
 abbrev pub plan_made : ℕ → File → Area → Times → ℕ → Plan
-plan_made w s area x penalty = record { times = x; numbers = table_after w s area (replicate 64 0); penalty = penalty }
+plan_made w s area x penalty = record { times = x; numbers = table_after w s area (replicate 64 0); penalty = penalty; count = x.count }
 
-abbrev pub plan_of : ℕ → File → Area → Times → ℕ → Result Plan Refusal
-plan_of w s area x penalty = answered (plan_check w s area x penalty) (plan_made w s area x penalty)
+abbrev pub plan_of : ℕ → File → Area → Times → ℕ → Result Plan Unplanned
+plan_of w s area x penalty = pick_plan (plan_check w s area x penalty) x (table_after w s area (replicate 64 0)) penalty
 
 -- R of task i by a plan
 abbrev pub plan_response : Plan → ℕ → ℕ
@@ -49,6 +54,6 @@ plan_response p i = times_response p.times (table_pair p.numbers) p.penalty i
 
 -- what a plan keeps
 pub record Ready (p : Plan) : Type 0 where
-  pub few : p.times.count ≤ 8
+  pub few : p.count ≤ 8
   pub low : p.penalty ≤ 1000
-  pub each : (j : ℕ) → j < p.times.count → TaskTimes p.times j
+  pub each : (j : ℕ) → j < p.count → TaskTimes p.times j

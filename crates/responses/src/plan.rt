@@ -1,4 +1,4 @@
-// What is to be set in a response time list: the times, Table's numbers and the penalty, or the check that fails first.
+// What is to be set in a response time list: the times, Table's numbers, the penalty and how many records get their R, or the check that fails first.
 ghost use Rattle.std.specs.Prelude.{◌≡◌, ◌≤◌, ◌<◌, length};
 ghost use Rattle.response.specs.Times.{with_response};
 ghost use Rattle.project.specs.Reading.{outside};
@@ -13,12 +13,30 @@ use table::table;
 // The largest miss penalty.
 const LARGEST_PENALTY: u64 = 1000;
 
-// The R of each record of a list, by the times of the list, Table's numbers and the penalty.
+// As many records as `count` says, the first ones, get their R by the other fields.
 #[derive(Clone, Copy)]
 pub struct Plan {
     pub times: Times,
     pub numbers: [u16; 64],
     pub penalty: u64,
+    pub count: usize,
+}
+
+// Where no record is to be set: the check that fails first, beside the times and what Table left of its numbers.
+#[derive(Clone, Copy)]
+pub struct Unplanned {
+    pub refusal: Refusal,
+    pub times: Times,
+    pub numbers: [u16; 64],
+}
+
+// The refusal alone.
+impl From<Unplanned> for Refusal {
+    ghost from_gives = { λ unplanned result. result ≡ unplanned.refusal };
+
+    fn from(unplanned: Unplanned) -> Refusal {
+        unplanned.refusal
+    }
 }
 
 // Whether a time is outside 1 to the largest.
@@ -62,26 +80,42 @@ fn is_refused(times: &Times, penalty: u64, tasks: usize) -> bool
 }
 
 // What is to be set in the list that the times are of, or the check that fails first. What the work area holds afterwards is free.
-pub fn planned(file: &[u8], area: &mut [u16], times: &Times, penalty: u32) -> Result<Plan, Refusal>
+pub fn planned(
+    file: &[u8],
+    area: &mut [u16],
+    times: &Times,
+    penalty: u32,
+) -> Result<Plan, Unplanned>
     ensures { (result ≡ plan_of 16 file.now area.old times.now penalty)
         × (length area.new ≡ length area.old) }
 {
     let mut numbers = [0u16; 64];
-    table(file, area, &mut numbers)?;
+    if let Err(refusal) = table(file, area, &mut numbers) {
+        return Err(Unplanned {
+            refusal,
+            times: *times,
+            numbers,
+        });
+    }
     let penalty = u64::from(penalty);
     if is_refused(times, penalty, byte_count(file[6])) {
-        return Err(Check::WrongTimes.into());
+        return Err(Unplanned {
+            refusal: Check::WrongTimes.into(),
+            times: *times,
+            numbers,
+        });
     }
     Ok(Plan {
         times: *times,
         numbers,
         penalty,
+        count: times.count,
     })
 }
 
 // The record of task i with its R.
 pub fn record_by(task: Record, i: usize, plan: &Plan) -> Record
-    requires { Ready plan.now × (i < plan.now.times.count) }
+    requires { Ready plan.now × (i < plan.now.count) }
     ensures { result ≡ with_response task (plan_response plan.now i) }
 {
     answered(task, &plan.times, &plan.numbers, plan.penalty, i)

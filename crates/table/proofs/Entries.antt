@@ -6,16 +6,21 @@ use native.Mathlib.Nat.{zero-add}
 use native.Mathlib.Omega.{arith}
 use lib.ListN.{get_or}
 use borrow.Author.Tests.{lt-ltb, ne_eqb}
-use Rattle.std.specs.Prelude.{Ok}
+use Rattle.std.specs.Prelude.{Ok, Err}
 use Rattle.project.specs.declared.answers.Check.TheVariants.{ListLength}
+use Rattle.project.specs.declared.answers.Refusal.{Refusal}
 use Rattle.project.specs.Checklist.{no_task}
 use Rattle.project.specs.Reading.{file_check}
 use Rattle.project.specs.File.{task_count}
 use Rattle.project.proofs.Accepted.{unless-passed, then_passed, passing}
 use Rattle.file_pairs.specs.FilePairs.{entry_of, table_of}
-use Rattle.table.specs.Table.{test1, table_check, TableEntries}
+use Rattle.table.specs.Table.{test1, table_check, table_answer, TableEntries}
 use Rattle.file_pairs.proofs.TableLaws.{place_at}
 use Rattle.table.proofs.Answers.{later-parts}
+
+-- where Table refuses, its checks failed with that refusal
+pub refused_failed : (w : ℕ) (s area table : List ℕ) {r : Refusal} → table_answer w s area table ≡ Err r → table_check w s area table ≡ Err r
+refused_failed w s area table e = e
 
 -- the checks of the file pass where those of Table do
 pub passed-file : (w : ℕ) (s area table : List ℕ) → table_check w s area table ≡ Ok tt → file_check s ≡ Ok tt

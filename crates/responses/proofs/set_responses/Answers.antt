@@ -2,7 +2,6 @@
 use mathlib.Core.Path.{◌≡◌, ap, ◌∙◌}
 use Prim.Native.Nat.{ℕ}
 use native.Mathlib.Omega.{arith}
-use lib.ListN.{length}
 use Rattle.response.specs.Times.{no_record, with_responses}
 use Rattle.responses.specs.Plan.{plan_response}
 use Rattle.responses.proofs.ListLaws.{set-none, set_turn}
@@ -17,5 +16,5 @@ loop-i-preserved c =
 
 pub returns : goal.returns
 returns c =
-    let end : c.loop-i.i ≡ c.args.plan.now.times.count = omega arith in
+    let end : c.loop-i.i ≡ c.args.plan.now.count = omega arith in
     c.loop-i.invariant ∙ ap (λ (n : ℕ). with_responses (plan_response c.args.plan.now) 0 n c.args.list.now) end
