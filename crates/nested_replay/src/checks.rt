@@ -82,7 +82,7 @@ fn check_run(input: &NestedInput<'_>, at: usize, deep: usize) -> Option<Right>
 #[cycle(check_list_check_run)]
 fn check_list(
     input: &NestedInput<'_>,
-    on: &BodyPath<'_>,
+    on: &BodyPath<'_, '_>,
     set: u32,
     at: usize,
     left: usize,

@@ -34,7 +34,7 @@ pub struct Totalled {
 }
 
 // The own references of a part of a path.
-fn total_part(part: &Part<'_>, shape: CacheShape, cache: TotalCache) -> TotalCache
+fn total_part(part: &Part<'_, '_>, shape: CacheShape, cache: TotalCache) -> TotalCache
     requires { Holds 32 shape × (length part.now.on.path.now ≤ 1536)
         × (cache.misses + length (part_of (task_of (decode part.now.on.body.now)) part.now.on.path.now part.now.from part.now.to) < 2 ^ 64) }
     ensures { held_total result ≡ own_references (shaped 32 shape) (held_total cache)
@@ -51,7 +51,7 @@ fn total_part(part: &Part<'_>, shape: CacheShape, cache: TotalCache) -> TotalCac
 
 // The own references from a point to the end of a path.
 fn total_rest(
-    on: &BodyPath<'_>,
+    on: &BodyPath<'_, '_>,
     from: PathPoint,
     shape: CacheShape,
     cache: TotalCache,
@@ -98,7 +98,7 @@ fn total_run(input: &NestedInput<'_>, at: usize, deep: usize, cache: TotalCache)
 #[cycle(total_list_total_run)]
 fn total_list(
     input: &NestedInput<'_>,
-    on: &BodyPath<'_>,
+    on: &BodyPath<'_, '_>,
     from: PathPoint,
     at: usize,
     left: usize,

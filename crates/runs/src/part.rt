@@ -29,7 +29,7 @@ pub const FIRST_POINT: PathPoint = PathPoint {
 };
 
 // The last point of a path: all references of its last block are done.
-pub fn last_point(on: &BodyPath<'_>) -> PathPoint
+pub fn last_point(on: &BodyPath<'_, '_>) -> PathPoint
     requires { 0 < length on.now.path.now }
     ensures { result ≡ last_point (task_of (decode on.now.body.now)) on.now.path.now }
 {
@@ -40,14 +40,14 @@ pub fn last_point(on: &BodyPath<'_>) -> PathPoint
 
 // The part of a path between two of its points.
 #[derive(Clone, Copy)]
-pub struct Part<'a> {
-    pub on: BodyPath<'a>,
+pub struct Part<'a, 'b> {
+    pub on: BodyPath<'a, 'b>,
     pub from: PathPoint,
     pub to: PathPoint,
     ghost within: { PartIn (task_of (decode on.body.now)) on.path.now from to } by { PartIn-prop (task_of (decode on.body.now)) on.path.now from to },
 }
 
-impl<'a> Part<'a> {
+impl<'a, 'b> Part<'a, 'b> {
     // The references of the block at the position x that lie in the part, two bytes each, as a part of the body; where in the body it stands is left
     // open.
     pub fn part_on(&self, x: usize) -> &'a [u8]

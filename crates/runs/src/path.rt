@@ -8,16 +8,17 @@ ghost use Rattle.runs.specs.Parts.{references_at};
 
 use body::references;
 
-// A path through blocks of a body that keeps its layout, and where the body's blocks begin.
+// A path through blocks of a body that keeps its layout, and where the body's blocks begin. The body has a lifetime of its own, so that a part of it can
+// be handed on from a place where the other two end.
 #[derive(Clone, Copy)]
-pub struct BodyPath<'a> {
+pub struct BodyPath<'a, 'b> {
     pub body: &'a [u8],
-    pub starts: &'a [usize],
-    pub path: &'a [u16],
+    pub starts: &'b [usize],
+    pub path: &'b [u16],
     ghost there: { PathIn body.now starts.now path.now } by { PathIn-prop body.now starts.now path.now },
 }
 
-impl<'a> BodyPath<'a> {
+impl<'a, 'b> BodyPath<'a, 'b> {
     // The references of the block at the position i, two bytes each, as a part of the body; where in the body it stands is left open.
     pub fn references_on(&self, i: usize) -> &'a [u8]
         requires { i < length self.now.path.now }

@@ -62,7 +62,7 @@ fn all_complete(file: &[u8], sheet: &[u16]) -> bool
 }
 
 // Whether so many references may be done where a preemption comes in the block at a position of a path: from 1 to all, or 0 where it has none.
-pub fn right_done(on: &BodyPath<'_>, position: usize, done: usize) -> bool
+pub fn right_done(on: &BodyPath<'_, '_>, position: usize, done: usize) -> bool
     requires { position < length on.now.path.now }
     ensures { result ≡ right_done (references_at (task_of (decode on.now.body.now)) on.now.path.now position) done }
 {
