@@ -5,7 +5,7 @@
 pub mod filling;
 pub mod nested;
 pub mod place;
-mod put;
+pub mod put;
 pub mod reading;
 pub mod replaying;
 pub mod timing;

@@ -274,3 +274,5 @@ module _ (t : ℕ) (s : Sheet) {r : End} (e : r ≡ run_end t deepest 0 s 0) whe
 
     pub whole_more : (next ≡ length s → ⊥) → 12 ≡ sheet_fault t s
     whole_more h = rw (q, ne_eqb next (length s) h) at whole
+
+pub ruleset whole_laws = (sheet_agrees, whole_fault_lem, whole-kept, whole_more)

@@ -132,6 +132,7 @@ fn list_end(
 }
 
 // Checks 12 and 20: the check that the first number at fault of a nested sheet is against, in a file of this many tasks, where there is one.
+#[tactic(auto, using(crate::proofs::RunByRun::whole_laws))]
 pub fn sheet_fault(sheet: &[u16], tasks: usize) -> Result<(), SheetFault>
     requires { tasks ≤ 8 }
     ensures { told_fault result ≡ sheet_fault tasks sheet.now }

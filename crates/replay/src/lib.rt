@@ -37,6 +37,8 @@ fn replay_bodies(file: &[u8], sheet: &[u16]) -> Result<Counted, Refusal>
 pub fn replay(file: &[u8], sheet: &[u16]) -> Result<Counted, Refusal>
     ensures { result ≡ replaying_of file.now sheet.now }
 {
-    head(file)?;
-    replay_bodies(file, sheet)
+    match head(file) {
+        Err(refused) => Err(refused),
+        Ok(()) => replay_bodies(file, sheet),
+    }
 }

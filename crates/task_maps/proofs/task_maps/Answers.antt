@@ -1,11 +1,10 @@
 -- `task_maps` meets its contract: after j turns the maps of the first j tasks are set. Assumes nothing.
-use mathlib.Core.Path.{◌≡◌, refl, subst}
+use mathlib.Core.Path.{◌≡◌, refl}
 use Prim.Native.Nat.{◌<◌}
 use native.Mathlib.Omega.{arith}
 use lib.ListN.{length}
-use Rattle.reader.proofs.TaskBodies.{TaskBody, body_kept}
+use Rattle.reader.proofs.TaskBodies.{TaskBody}
 use Rattle.reader.proofs.TaskBodies.{task-body as of-task}
-use Rattle.task_maps.specs.TaskMaps.{IsMapOf}
 use Rattle.task_maps.proofs.MapLaws.{maps_none, maps_turn}
 use Rattle.task_maps.proofs.task_maps.Goals as goal
 use Rattle.task_maps.proofs.task_maps.Goals.{In-loop-j}
@@ -21,9 +20,6 @@ few c = let t = the-task c in (omega (arith, t.in_file.below, t.in_file.few), c.
 pub loop-j-init : goal.loop-j-init
 loop-j-init c = (omega arith, maps_none c.args.file.now _ refl)
 
-pub map_of-requires : goal.map_of-requires
-map_of-requires c = body_kept c.args.file.now c.loop-j.j (the-task (goal.at.map_of-requires c).In-loop-j) c.task_body.ensures.0
-
 pub bounds-maps-j : goal.bounds-maps-j
 bounds-maps-j c = omega (arith, few (goal.at.bounds-maps-j c).In-loop-j)
 
@@ -37,7 +33,7 @@ pub loop-j-preserved : goal.loop-j-preserved
 loop-j-preserved c =
     let at = c.loop-j in
     let file = c.args.file.now in
-    (omega arith, maps_turn file at.j at.maps (few (goal.at.loop-j-preserved c).In-loop-j).0 at.invariant.1 (subst (λ b. IsMapOf b c.map_of.result) c.task_body.ensures.0 c.map_of.ensures))
+    (omega arith, maps_turn file at.j at.maps (few (goal.at.loop-j-preserved c).In-loop-j).0 at.invariant.1 c.map_of.ensures)
 
 pub returns : goal.returns
 returns c =
