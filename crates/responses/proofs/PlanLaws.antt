@@ -192,8 +192,11 @@ module _ (w : ℕ) (s area : List ℕ) (xs : List Record) (penalty : ℕ) where
     made : plan_made w s area x penalty ≡ plan
     made = (picked_ok x (table_after w s area zeros) penalty (plan_check w s area x penalty) found).1
 
-    pub found_ready : Ready plan × (plan.count ≡ length xs)
-    found_ready = subst (λ (p : Plan). Ready p × (p.count ≡ length xs)) made (plan_ready passed)
+    -- as many records get their R as the plan has times of
+    pub found_ready : Ready plan × (plan.count ≡ length xs) × (plan.times.count ≡ length xs)
+    found_ready =
+        let ready = plan_ready passed in
+        subst (λ (p : Plan). Ready p × (p.count ≡ length xs) × (p.times.count ≡ length xs)) made (ready.0, ready.1, ready.1)
 
     pub found_list : {ys : List Record} → ys ≡ with_responses (plan_response plan) 0 (length xs) xs
         → (Ok tt ≡ response_answer w s area xs penalty) × (ys ≡ response_after w s area xs penalty)
